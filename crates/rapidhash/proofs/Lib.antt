@@ -1,0 +1,4 @@
+pub mod Product
+pub mod ReadLaws
+pub mod Tests
+pub mod Words

@@ -1,0 +1,23 @@
+-- Words of bytes: how a word falls into shorter ones. Assumes nothing.
+use Prim.Native.Nat.{ℕ, zero, suc, _+_, _*_, _^_, _<_}
+use mathlib.Core.Path.{_≡_, ap}
+use mathlib.Core.List.{List}
+use native.Mathlib.Omega.{arith}
+use lib.ListN.{getD}
+use Rattle.rapidhash.specs.Words.{word}
+
+-- a word of 4 bytes, byte by byte, and its bound
+pub word-bytes : (s : List ℕ) (i : ℕ) {b₀ b₁ b₂ b₃ : ℕ} → (b₀ ≡ getD s i 0) × (b₀ < 256) → (b₁ ≡ getD s (i + 1) 0) × (b₁ < 256)
+    → (b₂ ≡ getD s (i + 2) 0) × (b₂ < 256) → (b₃ ≡ getD s (i + 3) 0) × (b₃ < 256)
+    → (b₀ + b₁ * 0x100 + b₂ * 0x1_0000 + b₃ * 0x100_0000 ≡ word 4 s i) × (b₀ + b₁ * 0x100 + b₂ * 0x1_0000 + b₃ * 0x100_0000 < 2 ^ 32)
+unfolding word
+word-bytes s i h₀ h₁ h₂ h₃ =
+    let e : getD s (i + 0) 0 ≡ getD s i 0 = ap (λ (k : ℕ). getD s k 0) (omega arith) in
+    omega arith
+
+-- a word of 8 bytes from its two halves
+pub word-halves : (s : List ℕ) (i : ℕ) → word 4 s i + word 4 s (i + 4) * 2 ^ 32 ≡ word 8 s i
+unfolding word
+word-halves s i =
+    let e : (j : ℕ) → getD s (i + 4 + j) 0 ≡ getD s (i + (4 + j)) 0 = λ j. ap (λ (k : ℕ). getD s k 0) (omega arith) in
+    omega (arith, e 0, e 1, e 2, e 3)

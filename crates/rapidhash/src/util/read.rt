@@ -1,0 +1,71 @@
+// Words out of bytes, as the Rust's util/read: least significant byte first on any host, by index. The two public
+// reads take any offset and answer whether the word is there; the hashes read by word8 and word4, whose range the
+// caller knows.
+ghost use mathlib.Core.Path.{_≡_};
+ghost use Prim.Native.Nat.{_+_, _^_, _<_, _≤_};
+ghost use lib.Dec.{leb};
+ghost use lib.ListN.{length};
+ghost use Rattle.rapidhash.specs.Words.{word};
+ghost use Rattle.rapidhash.specs.Numbers.{returned, readOf};
+
+// What a look-up by place answers.
+pub enum Found {
+    Value(u64),
+    PastEnd,
+}
+
+// The 8 bytes at an offset.
+pub fn read_u64(bytes: &[u8], offset: usize) -> Found
+    ensures { λ r. ⌜ returned r ≡ readOf 8 (now (bytes .entry)) offset ⌝ }
+{
+    if within(bytes, offset, 8) {
+        Found::Value(word8(bytes, offset))
+    } else {
+        Found::PastEnd
+    }
+}
+
+// The 4 bytes at an offset.
+pub fn read_u32(bytes: &[u8], offset: usize) -> Found
+    ensures { λ r. ⌜ returned r ≡ readOf 4 (now (bytes .entry)) offset ⌝ }
+{
+    if within(bytes, offset, 4) {
+        Found::Value(word4(bytes, offset))
+    } else {
+        Found::PastEnd
+    }
+}
+
+// Whether count bytes stand at an offset. No sum is made, so an offset near 2^64 cannot wrap.
+fn within(bytes: &[u8], offset: usize, count: usize) -> bool
+    ensures { λ r. ⌜ r ≡ leb (offset + count) (length (now (bytes .entry))) ⌝ }
+{
+    if count <= bytes.len() {
+        offset <= bytes.len() - count
+    } else {
+        false
+    }
+}
+
+// The 8 bytes at a place that is known to be there. Straight-line, so that the compiler makes one load of it.
+pub(crate) fn word8(bytes: &[u8], at: usize) -> u64
+    requires { ⌜ at + 8 ≤ length (now bytes) ⌝ }
+    ensures { λ r. ⌜ r ≡ word 8 (now (bytes .entry)) at ⌝ }
+{
+    word4(bytes, at) + word4(bytes, at + 4) * 0x1_0000_0000
+}
+
+// The 4 bytes at a place that is known to be there.
+pub(crate) fn word4(bytes: &[u8], at: usize) -> u64
+    requires { ⌜ at + 4 ≤ length (now bytes) ⌝ }
+    ensures { λ r. ⌜ (r ≡ word 4 (now (bytes .entry)) at) × (r < 2 ^ 32) ⌝ }
+{
+    wide(bytes[at]) + wide(bytes[at + 1]) * 0x100 + wide(bytes[at + 2]) * 0x1_0000 + wide(bytes[at + 3]) * 0x100_0000
+}
+
+// A byte as a 64-bit number.
+pub(crate) fn wide(byte: u8) -> u64
+    ensures { λ r. ⌜ (r ≡ byte) × (r < 256) ⌝ }
+{
+    byte as u64
+}

@@ -1,0 +1,47 @@
+//! rapidhash's own Rust as the oracle: it answers requests, checks stored answers, and prints the grid that
+//! a program of this repository replays. README.md says how to run it.
+
+mod check;
+mod first_run;
+mod hashes;
+mod inner;
+mod request;
+mod stream;
+mod words;
+
+// `util` and `v3` of rapidhash. They stand at this crate's root because their files say `crate::util` and
+// `crate::v3`.
+include!(concat!(env!("OUT_DIR"), "/rapidhash.rs"));
+
+use std::io::{stdin, stdout, ErrorKind, Result};
+use std::process::ExitCode;
+
+const USAGE: &str = "usage: oracle < REQUESTS | oracle check FILE.. | oracle first-run";
+
+fn main() -> ExitCode {
+    let arguments: Vec<String> = std::env::args().skip(1).collect();
+    match run(&arguments) {
+        Ok(code) => code,
+        // A reader that has seen enough, such as `head`, is no failure.
+        Err(error) if error.kind() == ErrorKind::BrokenPipe => ExitCode::SUCCESS,
+        Err(error) => {
+            eprintln!("oracle: {error}");
+            ExitCode::from(2)
+        }
+    }
+}
+
+fn run(arguments: &[String]) -> Result<ExitCode> {
+    let Some((mode, rest)) = arguments.split_first() else {
+        request::serve(stdin().lock(), stdout().lock())?;
+        return Ok(ExitCode::SUCCESS);
+    };
+    match (mode.as_str(), rest) {
+        ("check", [_, ..]) => check::files(rest, stdout().lock()),
+        ("first-run", []) => first_run::print(stdout().lock()).map(|()| ExitCode::SUCCESS),
+        _ => {
+            eprintln!("{USAGE}");
+            Ok(ExitCode::from(2))
+        }
+    }
+}
