@@ -2,3 +2,4 @@ pub mod Choice
 pub mod Words
 pub mod Mix
 pub mod Numbers
+pub mod Secrets
