@@ -1,11 +1,12 @@
 -- A test of the code and a test of a definition that say the same. Assumes nothing.
 use Prim.Native.Nat.{ℕ, _+_, _-_, _≤_, _<_}
 use mathlib.Core.Path.{_≡_, sym, _∙_}
-use mathlib.Core.Bool.{false}
+use mathlib.Core.Bool.{Bool, true, false}
 use native.Mathlib.Omega.{arith}
 use native.Mathlib.Decide.{decLe}
 use native.Mathlib.Nat.{lt-of-not-le}
 use lib.Dec.{leb}
+use Rattle.rapidhash.specs.Choice.{pick}
 use borrow.Author.Tests.{le-leb, lt-leb}
 
 -- two orders that follow from each other are one test
@@ -22,3 +23,8 @@ by-difference i k n h = same-leb i (n - k) (i + k) n (λ h′. omega arith) (λ 
 
 pub none-fits : (i k n : ℕ) → n < k → false ≡ leb (i + k) n
 none-fits i k n h = sym (lt-leb (i + k) n (omega arith))
+
+-- what both answers of a choice have, the choice has
+pub either : {A : Type 0} (P : A → Type 0) (t : Bool) {x y : A} → P x → P y → P (pick t x y)
+either P true h k = h
+either P false h k = k

@@ -3,3 +3,4 @@ pub mod Words
 pub mod Mix
 pub mod Numbers
 pub mod Secrets
+pub mod Hash

@@ -1,1 +1,2 @@
+pub mod rapid_const;
 pub mod seed;

@@ -1,0 +1,40 @@
+-- The tail's steps, and the last step: one law for each way on. Assumes nothing.
+use Prim.Native.Nat.{ℕ, _+_, _*_, _≤_, _<_}
+use mathlib.Core.Path.{_≡_, refl, _∙_, sym}
+use mathlib.Core.Bool.{Bool, true, false}
+use mathlib.Core.List.{List, [], _∷_}
+use lib.Bits.{bitXor}
+use lib.ListN.{length, getD}
+use borrow.Author.Tests.{lt-ltb, le-ltb}
+use Rattle.rapidhash.specs.Mix.{mum}
+use Rattle.rapidhash.specs.Hash.{mixPair, tail, avalanched, lastOf}
+use Rattle.rapidhash.specs.declared.util.mix.Mum.{Mum}
+use Rattle.rapidhash.specs.declared.v3.rapid_const.Ends.{Ends}
+
+module _ (p : Bool) (sec s : List ℕ) (j : ℕ) where
+  -- a step more while more than 16 (j + 1) bytes are left
+  pub tail-go : (t : ℕ) (ts : List ℕ) (x : ℕ) {y z : ℕ} → 16 * (j + 1) < length s → y ≡ mixPair p s (16 * j) (getD sec t 0) x
+      → z ≡ tail p sec s (j + 1) ts y → z ≡ tail p sec s j (t ∷ ts) x
+  unfolding tail
+  tail-go t ts x h e k = rw (lt-ltb (16 * (j + 1)) (length s) h, ← e) k
+
+  -- none where there are no more
+  pub tail-stop : (t : ℕ) (ts : List ℕ) (x : ℕ) → length s ≤ 16 * (j + 1) → x ≡ tail p sec s j (t ∷ ts) x
+  unfolding tail
+  tail-stop t ts x h = rw (le-ltb (16 * (j + 1)) (length s) h)
+
+  -- nor after the sixth
+  pub tail-end : (x : ℕ) → x ≡ tail p sec s j [] x
+  unfolding tail
+  tail-end x = refl
+
+module _ (av p : Bool) (sec : List ℕ) (e : Ends) {m : Mum} (h : m ≡ mum p (bitXor (e .a) (getD sec 1 0)) (bitXor (e .b) (e .seed))) where
+  -- with the avalanche
+  pub last-avalanche : {x : ℕ} → av ≡ true → x ≡ avalanched p sec (m .low) (m .high) (e .r) → x ≡ lastOf av p sec e
+  unfolding lastOf
+  last-avalanche on f = rw (on, ← h) f
+
+  -- without it
+  pub last-plain : av ≡ false → bitXor (m .low) (m .high) ≡ lastOf av p sec e
+  unfolding lastOf
+  last-plain off = rw (off, ← h)

@@ -1,0 +1,13 @@
+-- The rule itself. Assumes nothing.
+use Rattle.rapidhash.specs.Hash.{mixPair}
+use borrow.Author.Needs.{needs}
+use Rattle.rapidhash.proofs.v3.rapid_const.mix_pair.Statement.{statement}
+use Rattle.rapidhash.proofs.v3.rapid_const.mix_pair.Tie as tie
+
+returns : tie.Need-returns
+unfolding mixPair
+returns c = cc
+
+pub mix-pair-spec : {M : Type 1} → statement M
+mix-pair-spec =
+    tie.close (tie.spec (λ c κs. search needs) (λ c. search needs) (λ c κs. search needs) (λ c κs. search needs) returns)

@@ -1,0 +1,327 @@
+// The one-shot hashes, as the Rust's v3/rapid_const. The three sizes differ in their number of lanes alone, so the
+// path by length, the tail and the last step stand here once. The lane loop has the lane count as a literal at each
+// call: the compiler then unrolls it, keeps the lanes in registers and lifts the flag out.
+ghost use mathlib.Core.Path.{_≡_};
+ghost use mathlib.Core.Bool.{true, false};
+ghost use Prim.Native.Nat.{_+_, _*_, _<_, _≤_};
+ghost use lib.ListN.{length, replicate};
+ghost use Rattle.rapidhash.specs.Secrets.{seedCpp};
+ghost use Rattle.rapidhash.specs.Hash.{lanesOf, mixPair, chunkStep, mixedOf, joined, turns, tail};
+ghost use Rattle.rapidhash.specs.Hash.{reachedOf, longEnds, endsOf, avalanched, lastOf, hashOf};
+use crate::util::mix::rapid_mix;
+use crate::util::mix::rapid_mum;
+use crate::util::read::wide;
+use crate::util::read::word4;
+use crate::util::read::word8;
+use crate::v3::seed::RapidSecrets;
+
+// Which of the three hashes: 7, 5 or 3 lanes.
+pub enum Size {
+    Full,
+    Micro,
+    Nano,
+}
+
+// Lanes that have taken whole chunks, and the place that these reach.
+pub struct Mixed {
+    pub lanes: [u64; 7],
+    pub at: usize,
+}
+
+// The seed that whole chunks leave, and the place that they reach.
+pub struct Reached {
+    pub seed: u64,
+    pub at: usize,
+}
+
+// What the last step needs of a message: two words, the seed so far, and the number of bytes left over.
+pub struct Ends {
+    pub a: u64,
+    pub b: u64,
+    pub seed: u64,
+    pub r: u64,
+}
+
+// The hash with the default seed and secrets.
+pub fn rapidhash_v3(data: &[u8]) -> u64
+    ensures { λ r. ⌜ r ≡ hashOf 7 true false (seedCpp 0) (now («data» .entry)) ⌝ }
+{
+    rapidhash_v3_seeded(data, RapidSecrets::default_secrets())
+}
+
+// The hash with a seed and secrets of the caller's.
+pub fn rapidhash_v3_seeded(data: &[u8], secrets: RapidSecrets) -> u64
+    ensures { λ r. ⌜ r ≡ hashOf 7 true false secrets (now («data» .entry)) ⌝ }
+{
+    rapidhash_v3_inline(data, secrets, true, false, false)
+}
+
+// The full hash with every flag. Compact changes no answer, only the shape of the loop.
+pub fn rapidhash_v3_inline(data: &[u8], secrets: RapidSecrets, avalanche: bool, compact: bool, protected: bool) -> u64
+    ensures { λ r. ⌜ r ≡ hashOf 7 avalanche protected secrets (now («data» .entry)) ⌝ }
+{
+    rapidhash_core(data, secrets, Size::Full, avalanche, compact, protected)
+}
+
+// The hash of five lanes. Its answers are others than the full hash's from 81 bytes on.
+pub fn rapidhash_v3_micro_inline(data: &[u8], secrets: RapidSecrets, avalanche: bool, protected: bool) -> u64
+    ensures { λ r. ⌜ r ≡ hashOf 5 avalanche protected secrets (now («data» .entry)) ⌝ }
+{
+    rapidhash_core(data, secrets, Size::Micro, avalanche, true, protected)
+}
+
+// The hash of three lanes. Its answers are others than the full hash's from 49 bytes on.
+pub fn rapidhash_v3_nano_inline(data: &[u8], secrets: RapidSecrets, avalanche: bool, protected: bool) -> u64
+    ensures { λ r. ⌜ r ≡ hashOf 3 avalanche protected secrets (now («data» .entry)) ⌝ }
+{
+    rapidhash_core(data, secrets, Size::Nano, avalanche, true, protected)
+}
+
+fn rapidhash_core(data: &[u8], secrets: RapidSecrets, size: Size, avalanche: bool, compact: bool, protected: bool) -> u64
+    ensures { λ r. ⌜ r ≡ hashOf (lanesOf size) avalanche protected secrets (now («data» .entry)) ⌝ }
+{
+    let e = ends_by_length(data, secrets, size, compact, protected);
+    let s = secrets.secrets;
+    last_step(e, s, avalanche, protected)
+}
+
+// The length class decides which bytes are read and whether the length goes into the seed.
+fn ends_by_length(data: &[u8], secrets: RapidSecrets, size: Size, compact: bool, protected: bool) -> Ends
+    ensures { λ r. ⌜ r ≡ endsOf (lanesOf size) protected secrets (now («data» .entry)) ⌝ }
+{
+    let n = data.len();
+    let seed = secrets.seed;
+    match n {
+        0 => Ends {
+            a: 0,
+            b: 0,
+            seed,
+            r: 0,
+        },
+        1..=3 => Ends {
+            a: wide(data[0]) << 45 | wide(data[n - 1]),
+            b: wide(data[n / 2]),
+            seed,
+            r: n as u64,
+        },
+        4..=7 => Ends {
+            a: word4(data, 0),
+            b: word4(data, n - 4),
+            seed: seed ^ n as u64,
+            r: n as u64,
+        },
+        8..=16 => Ends {
+            a: word8(data, 0),
+            b: word8(data, n - 8),
+            seed: seed ^ n as u64,
+            r: n as u64,
+        },
+        _ => rapidhash_core_cold(data, secrets, size, compact, protected),
+    }
+}
+
+// More than 16 bytes: whole chunks, then the tail, then the message's last two words.
+fn rapidhash_core_cold(data: &[u8], secrets: RapidSecrets, size: Size, compact: bool, protected: bool) -> Ends
+    requires { ⌜ 16 < length (now «data») ⌝ }
+    ensures { λ r. ⌜ r ≡ longEnds (lanesOf size) protected secrets (now («data» .entry)) ⌝ }
+{
+    let n = data.len();
+    let s = secrets.secrets;
+    let q = after_chunks(data, secrets, size, compact, protected);
+    let at = q.at;
+    let x = tail_steps(&data[at..], s, q.seed, protected);
+    let r = (n - at) as u64;
+    Ends {
+        a: word8(data, n - 16) ^ r,
+        b: word8(data, n - 8),
+        seed: x,
+        r,
+    }
+}
+
+// The chunks of a whole message. Up to one chunk none is mixed, and the seed is the caller's.
+fn after_chunks(data: &[u8], secrets: RapidSecrets, size: Size, compact: bool, protected: bool) -> Reached
+    ensures { λ r. ⌜ r ≡ reachedOf (lanesOf size) protected secrets (now («data» .entry)) ⌝ }
+{
+    let seed = secrets.seed;
+    if data.len() <= 16 * lane_count(size) {
+        return Reached { seed, at: 0 };
+    }
+    let s = secrets.secrets;
+    let m = mix_chunks(data, s, [seed; 7], size, compact, protected);
+    let l = m.lanes;
+    Reached {
+        seed: join(l, size),
+        at: m.at,
+    }
+}
+
+// Every chunk that at least one byte follows, into the given lanes.
+pub fn mix_chunks(data: &[u8], secrets: [u64; 7], lanes: [u64; 7], size: Size, compact: bool, protected: bool) -> Mixed
+    ensures { λ r. ⌜ r ≡ mixedOf (lanesOf size) protected secrets lanes (now («data» .entry)) ⌝ }
+{
+    if let Size::Full = size {
+        if !compact {
+            return two_by_two(data, secrets, lanes, protected);
+        }
+    }
+    chunk_by_chunk(data, secrets, lanes, size, protected)
+}
+
+// The compact loop: a chunk a turn.
+fn chunk_by_chunk(data: &[u8], secrets: [u64; 7], start: [u64; 7], size: Size, protected: bool) -> Mixed
+    ensures { λ r. ⌜ r ≡ mixedOf (lanesOf size) protected secrets start (now («data» .entry)) ⌝ }
+{
+    let w = 16 * lane_count(size);
+    let mut l = start;
+    let mut at = 0;
+    while w < data.len() - at {
+        let next = mix_chunk(&data[at..at + w], secrets, l, size, protected);
+        l = next;
+        at += w;
+    }
+    Mixed { lanes: l, at }
+}
+
+// The loop of the full hash that is not compact: 224 bytes a turn, and at the end a chunk more where one is left.
+fn two_by_two(data: &[u8], secrets: [u64; 7], start: [u64; 7], protected: bool) -> Mixed
+    ensures { λ r. ⌜ r ≡ mixedOf 7 protected secrets start (now («data» .entry)) ⌝ }
+{
+    let mut l = start;
+    let mut at = 0;
+    while 224 < data.len() - at {
+        let half = chunk_step(&data[at..at + 112], secrets, l, 7, protected);
+        let next = chunk_step(&data[at + 112..at + 224], secrets, half, 7, protected);
+        l = next;
+        at += 224;
+    }
+    if 112 < data.len() - at {
+        let next = chunk_step(&data[at..at + 112], secrets, l, 7, protected);
+        return Mixed {
+            lanes: next,
+            at: at + 112,
+        };
+    }
+    Mixed { lanes: l, at }
+}
+
+// One chunk into the lanes of a size. Each arm has its lane count as a literal.
+fn mix_chunk(chunk: &[u8], secrets: [u64; 7], lanes: [u64; 7], size: Size, protected: bool) -> [u64; 7]
+    requires { ⌜ 16 * lanesOf size ≤ length (now chunk) ⌝ }
+    ensures { λ r. ⌜ r ≡ chunkStep (lanesOf size) protected secrets (now (chunk .entry)) lanes ⌝ }
+{
+    match size {
+        Size::Full => chunk_step(chunk, secrets, lanes, 7, protected),
+        Size::Micro => chunk_step(chunk, secrets, lanes, 5, protected),
+        Size::Nano => chunk_step(chunk, secrets, lanes, 3, protected),
+    }
+}
+
+// One chunk into the first count lanes.
+fn chunk_step(chunk: &[u8], secrets: [u64; 7], start: [u64; 7], count: usize, protected: bool) -> [u64; 7]
+    requires { ⌜ (count ≤ 7) × (16 * count ≤ length (now chunk)) ⌝ }
+    ensures { λ r. ⌜ r ≡ chunkStep count protected secrets (now (chunk .entry)) start ⌝ }
+{
+    let mut l = start;
+    let mut j = 0;
+    while j < count {
+        l[j] = mix_pair(chunk, 16 * j, secrets[j], l[j], protected);
+        j += 1;
+    }
+    l
+}
+
+// Two words at a place, with a secret, into x.
+fn mix_pair(bytes: &[u8], at: usize, secret: u64, x: u64, protected: bool) -> u64
+    requires { ⌜ at + 16 ≤ length (now bytes) ⌝ }
+    ensures { λ r. ⌜ r ≡ mixPair protected (now (bytes .entry)) at secret x ⌝ }
+{
+    rapid_mix(word8(bytes, at) ^ secret, word8(bytes, at + 8) ^ x, protected)
+}
+
+// The XOR of the lanes of a size. Each arm has its lane count as a literal.
+pub fn join(lanes: [u64; 7], size: Size) -> u64
+    ensures { λ r. ⌜ r ≡ joined (lanesOf size) lanes ⌝ }
+{
+    match size {
+        Size::Full => joined_lanes(lanes, 7),
+        Size::Micro => joined_lanes(lanes, 5),
+        Size::Nano => joined_lanes(lanes, 3),
+    }
+}
+
+// The XOR of the first count lanes.
+fn joined_lanes(lanes: [u64; 7], count: usize) -> u64
+    requires { ⌜ count ≤ 7 ⌝ }
+    ensures { λ r. ⌜ r ≡ joined count lanes ⌝ }
+{
+    let mut x = 0;
+    let mut j = 0;
+    while j < count {
+        x = x ^ lanes[j];
+        j += 1;
+    }
+    x
+}
+
+// The bytes left after the chunks, 16 at a time while more than 16 are left. The steps stand one after another and
+// not in a loop, so that each secret is at hand; longer inputs than a chunk have no step more.
+pub fn tail_steps(left: &[u8], secrets: [u64; 7], seed: u64, protected: bool) -> u64
+    ensures { λ r. ⌜ r ≡ tail protected secrets (now (left .entry)) 0 turns seed ⌝ }
+{
+    let r = left.len();
+    if r <= 16 {
+        return seed;
+    }
+    let x0 = mix_pair(left, 0, secrets[2], seed, protected);
+    if r <= 32 {
+        return x0;
+    }
+    let x1 = mix_pair(left, 16, secrets[2], x0, protected);
+    if r <= 48 {
+        return x1;
+    }
+    let x2 = mix_pair(left, 32, secrets[1], x1, protected);
+    if r <= 64 {
+        return x2;
+    }
+    let x3 = mix_pair(left, 48, secrets[1], x2, protected);
+    if r <= 80 {
+        return x3;
+    }
+    let x4 = mix_pair(left, 64, secrets[2], x3, protected);
+    if r <= 96 {
+        return x4;
+    }
+    mix_pair(left, 80, secrets[1], x4, protected)
+}
+
+// The last step.
+pub fn last_step(ends: Ends, secrets: [u64; 7], avalanche: bool, protected: bool) -> u64
+    ensures { λ r. ⌜ r ≡ lastOf avalanche protected secrets ends ⌝ }
+{
+    let m = rapid_mum(ends.a ^ secrets[1], ends.b ^ ends.seed, protected);
+    if avalanche {
+        rapidhash_finish(m.low, m.high, ends.r, secrets, protected)
+    } else {
+        m.low ^ m.high
+    }
+}
+
+// The avalanche.
+fn rapidhash_finish(a: u64, b: u64, remainder: u64, secrets: [u64; 7], protected: bool) -> u64
+    ensures { λ r. ⌜ r ≡ avalanched protected secrets a b remainder ⌝ }
+{
+    rapid_mix(a ^ 0xaaaa_aaaa_aaaa_aaaa, b ^ secrets[1] ^ remainder, protected)
+}
+
+// The number of lanes.
+fn lane_count(size: Size) -> usize
+    ensures { λ r. ⌜ (r ≡ lanesOf size) × (0 < r) × (r ≤ 7) ⌝ }
+{
+    match size {
+        Size::Full => 7,
+        Size::Micro => 5,
+        Size::Nano => 3,
+    }
+}
