@@ -43,7 +43,7 @@ module _ (L : ℕ) (p : Bool) (sec s : List ℕ) where
   ahead at l =
       record {
         lanes = lanesAfter L p sec (chunks (16 * L) (length s - at)) l (drop at s);
-        at = at + 16 * L * chunks (16 * L) (length s - at)
+        at = at + 16 * L * chunks (16 * L) (length s - at);
       }
 
   -- at the start all is ahead
@@ -65,7 +65,7 @@ module _ (L : ℕ) (p : Bool) (sec s : List ℕ) where
         let one : chunks (16 * L) (length s - at) ≡ suc k = chunks-more (16 * L) (length s - at) (omega arith) h ∙ rw less in
         let rest : drop (16 * L) (drop at s) ≡ drop e s = drop-drop (16 * L) at s ∙ rw he in
         let lanes : lanesAfter L p sec (chunks (16 * L) (length s - at)) l (drop at s) ≡ lanesAfter L p sec k m (drop e s) =
-            ap (λ (i : ℕ). lanesAfter L p sec i l (drop at s)) one ∙ lanes-more k l (drop at s) ∙ rw (rest, hm, size) in
+        ap (λ (i : ℕ). lanesAfter L p sec i l (drop at s)) one ∙ lanes-more k l (drop at s) ∙ rw (rest, hm, size) in
         let place : at + 16 * L * chunks (16 * L) (length s - at) ≡ e + 16 * L * k = rw one (omega (arith, mul-suc (16 * L) k)) in
         before ∙ rw (lanes, place)
 

@@ -1,8 +1,11 @@
 pub mod Chunks
 pub mod Classes
+pub mod Demand1
+pub mod Demand2
 pub mod Lanes
 pub mod Product
 pub mod ReadLaws
 pub mod Steps
 pub mod Tests
 pub mod Words
+pub mod WorkedByHand

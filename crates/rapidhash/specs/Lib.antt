@@ -4,3 +4,4 @@ pub mod Mix
 pub mod Numbers
 pub mod Secrets
 pub mod Hash
+pub mod Worked

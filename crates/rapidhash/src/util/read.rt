@@ -60,7 +60,10 @@ pub(crate) fn word4(bytes: &[u8], at: usize) -> u64
     requires { ⌜ at + 4 ≤ length (now bytes) ⌝ }
     ensures { λ r. ⌜ (r ≡ word 4 (now (bytes .entry)) at) × (r < 2 ^ 32) ⌝ }
 {
-    wide(bytes[at]) + wide(bytes[at + 1]) * 0x100 + wide(bytes[at + 2]) * 0x1_0000 + wide(bytes[at + 3]) * 0x100_0000
+    wide(bytes[at])
+        + wide(bytes[at + 1]) * 0x100
+        + wide(bytes[at + 2]) * 0x1_0000
+        + wide(bytes[at + 3]) * 0x100_0000
 }
 
 // A byte as a 64-bit number.

@@ -57,27 +57,50 @@ pub fn rapidhash_v3_seeded(data: &[u8], secrets: RapidSecrets) -> u64
 }
 
 // The full hash with every flag. Compact changes no answer, only the shape of the loop.
-pub fn rapidhash_v3_inline(data: &[u8], secrets: RapidSecrets, avalanche: bool, compact: bool, protected: bool) -> u64
+pub fn rapidhash_v3_inline(
+    data: &[u8],
+    secrets: RapidSecrets,
+    avalanche: bool,
+    compact: bool,
+    protected: bool,
+) -> u64
     ensures { λ r. ⌜ r ≡ hashOf 7 avalanche protected secrets (now («data» .entry)) ⌝ }
 {
     rapidhash_core(data, secrets, Size::Full, avalanche, compact, protected)
 }
 
 // The hash of five lanes. Its answers are others than the full hash's from 81 bytes on.
-pub fn rapidhash_v3_micro_inline(data: &[u8], secrets: RapidSecrets, avalanche: bool, protected: bool) -> u64
+pub fn rapidhash_v3_micro_inline(
+    data: &[u8],
+    secrets: RapidSecrets,
+    avalanche: bool,
+    protected: bool,
+) -> u64
     ensures { λ r. ⌜ r ≡ hashOf 5 avalanche protected secrets (now («data» .entry)) ⌝ }
 {
     rapidhash_core(data, secrets, Size::Micro, avalanche, true, protected)
 }
 
 // The hash of three lanes. Its answers are others than the full hash's from 49 bytes on.
-pub fn rapidhash_v3_nano_inline(data: &[u8], secrets: RapidSecrets, avalanche: bool, protected: bool) -> u64
+pub fn rapidhash_v3_nano_inline(
+    data: &[u8],
+    secrets: RapidSecrets,
+    avalanche: bool,
+    protected: bool,
+) -> u64
     ensures { λ r. ⌜ r ≡ hashOf 3 avalanche protected secrets (now («data» .entry)) ⌝ }
 {
     rapidhash_core(data, secrets, Size::Nano, avalanche, true, protected)
 }
 
-fn rapidhash_core(data: &[u8], secrets: RapidSecrets, size: Size, avalanche: bool, compact: bool, protected: bool) -> u64
+fn rapidhash_core(
+    data: &[u8],
+    secrets: RapidSecrets,
+    size: Size,
+    avalanche: bool,
+    compact: bool,
+    protected: bool,
+) -> u64
     ensures { λ r. ⌜ r ≡ hashOf (lanesOf size) avalanche protected secrets (now («data» .entry)) ⌝ }
 {
     let e = ends_by_length(data, secrets, size, compact, protected);
@@ -86,7 +109,13 @@ fn rapidhash_core(data: &[u8], secrets: RapidSecrets, size: Size, avalanche: boo
 }
 
 // The length class decides which bytes are read and whether the length goes into the seed.
-fn ends_by_length(data: &[u8], secrets: RapidSecrets, size: Size, compact: bool, protected: bool) -> Ends
+fn ends_by_length(
+    data: &[u8],
+    secrets: RapidSecrets,
+    size: Size,
+    compact: bool,
+    protected: bool,
+) -> Ends
     ensures { λ r. ⌜ r ≡ endsOf (lanesOf size) protected secrets (now («data» .entry)) ⌝ }
 {
     let n = data.len();
@@ -121,7 +150,13 @@ fn ends_by_length(data: &[u8], secrets: RapidSecrets, size: Size, compact: bool,
 }
 
 // More than 16 bytes: whole chunks, then the tail, then the message's last two words.
-fn rapidhash_core_cold(data: &[u8], secrets: RapidSecrets, size: Size, compact: bool, protected: bool) -> Ends
+fn rapidhash_core_cold(
+    data: &[u8],
+    secrets: RapidSecrets,
+    size: Size,
+    compact: bool,
+    protected: bool,
+) -> Ends
     requires { ⌜ 16 < length (now «data») ⌝ }
     ensures { λ r. ⌜ r ≡ longEnds (lanesOf size) protected secrets (now («data» .entry)) ⌝ }
 {
@@ -140,7 +175,13 @@ fn rapidhash_core_cold(data: &[u8], secrets: RapidSecrets, size: Size, compact: 
 }
 
 // The chunks of a whole message. Up to one chunk none is mixed, and the seed is the caller's.
-fn after_chunks(data: &[u8], secrets: RapidSecrets, size: Size, compact: bool, protected: bool) -> Reached
+fn after_chunks(
+    data: &[u8],
+    secrets: RapidSecrets,
+    size: Size,
+    compact: bool,
+    protected: bool,
+) -> Reached
     ensures { λ r. ⌜ r ≡ reachedOf (lanesOf size) protected secrets (now («data» .entry)) ⌝ }
 {
     let seed = secrets.seed;
@@ -157,7 +198,14 @@ fn after_chunks(data: &[u8], secrets: RapidSecrets, size: Size, compact: bool, p
 }
 
 // Every chunk that at least one byte follows, into the given lanes.
-pub fn mix_chunks(data: &[u8], secrets: [u64; 7], lanes: [u64; 7], size: Size, compact: bool, protected: bool) -> Mixed
+pub fn mix_chunks(
+    data: &[u8],
+    secrets: [u64; 7],
+    lanes: [u64; 7],
+    size: Size,
+    compact: bool,
+    protected: bool,
+) -> Mixed
     ensures { λ r. ⌜ r ≡ mixedOf (lanesOf size) protected secrets lanes (now («data» .entry)) ⌝ }
 {
     if let Size::Full = size {
@@ -169,7 +217,13 @@ pub fn mix_chunks(data: &[u8], secrets: [u64; 7], lanes: [u64; 7], size: Size, c
 }
 
 // The compact loop: a chunk a turn.
-fn chunk_by_chunk(data: &[u8], secrets: [u64; 7], start: [u64; 7], size: Size, protected: bool) -> Mixed
+fn chunk_by_chunk(
+    data: &[u8],
+    secrets: [u64; 7],
+    start: [u64; 7],
+    size: Size,
+    protected: bool,
+) -> Mixed
     ensures { λ r. ⌜ r ≡ mixedOf (lanesOf size) protected secrets start (now («data» .entry)) ⌝ }
 {
     let w = 16 * lane_count(size);
@@ -206,7 +260,13 @@ fn two_by_two(data: &[u8], secrets: [u64; 7], start: [u64; 7], protected: bool) 
 }
 
 // One chunk into the lanes of a size. Each arm has its lane count as a literal.
-fn mix_chunk(chunk: &[u8], secrets: [u64; 7], lanes: [u64; 7], size: Size, protected: bool) -> [u64; 7]
+fn mix_chunk(
+    chunk: &[u8],
+    secrets: [u64; 7],
+    lanes: [u64; 7],
+    size: Size,
+    protected: bool,
+) -> [u64; 7]
     requires { ⌜ 16 * lanesOf size ≤ length (now chunk) ⌝ }
     ensures { λ r. ⌜ r ≡ chunkStep (lanesOf size) protected secrets (now (chunk .entry)) lanes ⌝ }
 {
@@ -218,7 +278,13 @@ fn mix_chunk(chunk: &[u8], secrets: [u64; 7], lanes: [u64; 7], size: Size, prote
 }
 
 // One chunk into the first count lanes.
-fn chunk_step(chunk: &[u8], secrets: [u64; 7], start: [u64; 7], count: usize, protected: bool) -> [u64; 7]
+fn chunk_step(
+    chunk: &[u8],
+    secrets: [u64; 7],
+    start: [u64; 7],
+    count: usize,
+    protected: bool,
+) -> [u64; 7]
     requires { ⌜ (count ≤ 7) × (16 * count ≤ length (now chunk)) ⌝ }
     ensures { λ r. ⌜ r ≡ chunkStep count protected secrets (now (chunk .entry)) start ⌝ }
 {
@@ -236,7 +302,11 @@ fn mix_pair(bytes: &[u8], at: usize, secret: u64, x: u64, protected: bool) -> u6
     requires { ⌜ at + 16 ≤ length (now bytes) ⌝ }
     ensures { λ r. ⌜ r ≡ mixPair protected (now (bytes .entry)) at secret x ⌝ }
 {
-    rapid_mix(word8(bytes, at) ^ secret, word8(bytes, at + 8) ^ x, protected)
+    rapid_mix(
+        word8(bytes, at) ^ secret,
+        word8(bytes, at + 8) ^ x,
+        protected,
+    )
 }
 
 // The XOR of the lanes of a size. Each arm has its lane count as a literal.
@@ -312,7 +382,11 @@ pub fn last_step(ends: Ends, secrets: [u64; 7], avalanche: bool, protected: bool
 fn rapidhash_finish(a: u64, b: u64, remainder: u64, secrets: [u64; 7], protected: bool) -> u64
     ensures { λ r. ⌜ r ≡ avalanched protected secrets a b remainder ⌝ }
 {
-    rapid_mix(a ^ 0xaaaa_aaaa_aaaa_aaaa, b ^ secrets[1] ^ remainder, protected)
+    rapid_mix(
+        a ^ 0xaaaa_aaaa_aaaa_aaaa,
+        b ^ secrets[1] ^ remainder,
+        protected,
+    )
 }
 
 // The number of lanes.

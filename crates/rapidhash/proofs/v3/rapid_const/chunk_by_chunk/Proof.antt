@@ -26,9 +26,10 @@ loop-less : tie.Need-loop-less Inv-loop μ-loop
 loop-less c = omega arith
 
 loop-again : tie.Need-loop-again Inv-loop μ-loop
-loop-again c =
-    (omega arith,
-    ahead-turn _ _ _ _ (omega arith) _ _ (c .before .before .before .loop .inv .1) _ (omega arith) (omega arith) (c .mix-chunk .ensures))
+loop-again c = (
+  omega arith,
+  ahead-turn _ _ _ _ (omega arith) _ _ (c .before .before .before .loop .inv .1) _ (omega arith) (omega arith) (c .mix-chunk .ensures),
+)
 
 returns : tie.Need-returns Inv-loop μ-loop
 returns c = ahead-done _ _ _ _ (omega arith) _ _ (c .before .loop .inv .1) (omega arith)
