@@ -21,7 +21,7 @@ use Rattle.rapidhash.proofs.Tests.{either}
 
 module _ (L : ℕ) (p : Bool) (x : RapidSecrets) (s : List ℕ) where
   -- no byte
-  pub class-none : length s ≡ 0 → record { a = 0; b = 0; seed = x .seed; r = 0 } ≡ endsOf L p x s
+  pub class-none : length s ≡ 0 → record { a = 0; b = 0; seed = x .seed; r = length s } ≡ endsOf L p x s
   unfolding endsOf
   class-none h = rw h
 

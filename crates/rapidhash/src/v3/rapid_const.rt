@@ -119,32 +119,40 @@ fn ends_by_length(
     ensures { λ r. ⌜ r ≡ endsOf (lanesOf size) protected secrets (now («data» .entry)) ⌝ }
 {
     let n = data.len();
+    let r = n as u64;
     let seed = secrets.seed;
     match n {
         0 => Ends {
             a: 0,
             b: 0,
             seed,
-            r: 0,
+            r,
         },
-        1..=3 => Ends {
-            a: wide(data[0]) << 45 | wide(data[n - 1]),
-            b: wide(data[n / 2]),
-            seed,
-            r: n as u64,
-        },
-        4..=7 => Ends {
-            a: word4(data, 0),
-            b: word4(data, n - 4),
-            seed: seed ^ n as u64,
-            r: n as u64,
-        },
-        8..=16 => Ends {
-            a: word8(data, 0),
-            b: word8(data, n - 8),
-            seed: seed ^ n as u64,
-            r: n as u64,
-        },
+        1..=3 => {
+            let a = wide(data[0]) << 45 | wide(data[n - 1]);
+            let b = wide(data[n / 2]);
+            Ends { a, b, seed, r }
+        }
+        4..=7 => {
+            let a = word4(data, 0);
+            let b = word4(data, n - 4);
+            Ends {
+                a,
+                b,
+                seed: seed ^ r,
+                r,
+            }
+        }
+        8..=16 => {
+            let a = word8(data, 0);
+            let b = word8(data, n - 8);
+            Ends {
+                a,
+                b,
+                seed: seed ^ r,
+                r,
+            }
+        }
         _ => rapidhash_core_cold(data, secrets, size, compact, protected),
     }
 }
