@@ -1,7 +1,9 @@
+pub mod Chain
 pub mod Chunks
 pub mod Classes
 pub mod Demand1
 pub mod Demand2
+pub mod Folded
 pub mod Lanes
 pub mod Product
 pub mod ReadLaws

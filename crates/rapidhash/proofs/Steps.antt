@@ -7,8 +7,9 @@ use lib.Bits.{bitXor}
 use lib.ListN.{length, getD}
 use borrow.Author.Tests.{lt-ltb, le-ltb}
 use Rattle.rapidhash.specs.Mix.{mum}
-use Rattle.rapidhash.specs.Hash.{mixPair, tail, avalanched, lastOf}
+use Rattle.rapidhash.specs.Hash.{mixPair, tail, avalanched, endsOf, lastOf, hashOf}
 use Rattle.rapidhash.specs.declared.util.mix.Mum.{Mum}
+use Rattle.rapidhash.specs.declared.v3.seed.RapidSecrets.{RapidSecrets}
 use Rattle.rapidhash.specs.declared.v3.rapid_const.Ends.{Ends}
 
 module _ (p : Bool) (sec s : List ℕ) (j : ℕ) where
@@ -38,3 +39,13 @@ module _ (av p : Bool) (sec : List ℕ) (e : Ends) {m : Mum} (h : m ≡ mum p (b
   pub last-plain : av ≡ false → bitXor (m .low) (m .high) ≡ lastOf av p sec e
   unfolding lastOf
   last-plain off = rw (off, ← h)
+
+-- the last step on the ends of the message is the hash
+pub hash-steps : (L : ℕ) (av p : Bool) (x : RapidSecrets) (s : List ℕ) {e : Ends} {h : ℕ} → e ≡ endsOf L p x s → h ≡ lastOf av p (x .secrets) e
+    → h ≡ hashOf L av p x s
+unfolding hashOf
+hash-steps L av p x s he hh = rw (← he) hh
+
+-- a hash with secrets that are another's
+pub with-default : (L : ℕ) (av p : Bool) (x : RapidSecrets) (s : List ℕ) {y : RapidSecrets} {h : ℕ} → y ≡ x → h ≡ hashOf L av p y s → h ≡ hashOf L av p x s
+with-default L av p x s e hh = rw (← e) hh

@@ -1,11 +1,11 @@
-use Rattle.rapidhash.specs.Mix.{mix}
+-- The rule itself. Assumes nothing.
+use Rattle.rapidhash.proofs.Folded.{mix-words}
 use borrow.Author.Needs.{needs}
 use Rattle.rapidhash.proofs.util.mix.rapid_mix.Statement.{statement}
 use Rattle.rapidhash.proofs.util.mix.rapid_mix.Tie as tie
 
 returns : tie.Need-returns
-unfolding mix
-returns c = cc
+returns c = search mix-words
 
 pub rapid-mix-spec : {M : Type 1} → statement M
 rapid-mix-spec = tie.close (tie.spec (λ c κs. search needs) returns)

@@ -1,12 +1,11 @@
 -- The rule itself. Assumes nothing.
-use Rattle.rapidhash.specs.Hash.{mixPair}
+use Rattle.rapidhash.proofs.Folded.{pair-words}
 use borrow.Author.Needs.{needs}
 use Rattle.rapidhash.proofs.v3.rapid_const.mix_pair.Statement.{statement}
 use Rattle.rapidhash.proofs.v3.rapid_const.mix_pair.Tie as tie
 
 returns : tie.Need-returns
-unfolding mixPair
-returns c = cc
+returns c = search pair-words
 
 pub mix-pair-spec : {M : Type 1} → statement M
 mix-pair-spec =

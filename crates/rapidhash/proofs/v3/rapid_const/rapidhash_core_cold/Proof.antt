@@ -12,7 +12,7 @@ part-tail-steps-start : tie.Need-part-tail-steps-start
 part-tail-steps-start c = let h = reached-within _ _ _ _ (c .after-chunks .ensures) in search needs
 
 sub-r : tie.Need-sub-r
-sub-r c = search reached-within
+sub-r c = search (reached-within, needs)
 
 returns : tie.Need-returns
 returns c = search long-ends

@@ -6,7 +6,7 @@ use Rattle.rapidhash.proofs.v3.rapid_const.rapidhash_finish.Tie as tie
 
 returns : tie.Need-returns
 unfolding avalanched
-returns c = cc
+returns c = c .rapid-mix .ensures
 
 pub rapidhash-finish-spec : {M : Type 1} → statement M
 rapidhash-finish-spec = tie.close (tie.spec (λ c. search needs) (λ c κs. search needs) returns)

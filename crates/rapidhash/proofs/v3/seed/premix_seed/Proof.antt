@@ -1,12 +1,11 @@
 -- Stirred, then repaired. Assumes nothing.
-use Rattle.rapidhash.specs.Secrets.{premix}
+use Rattle.rapidhash.proofs.Chain.{premixed}
 use borrow.Author.Needs.{needs}
 use Rattle.rapidhash.proofs.v3.seed.premix_seed.Statement.{statement}
 use Rattle.rapidhash.proofs.v3.seed.premix_seed.Tie as tie
 
 returns : tie.Need-returns
-unfolding premix
-returns c = cc
+returns c = search premixed
 
 pub premix-seed-spec : {M : Type 1} → statement M
 premix-seed-spec = tie.close (tie.spec (λ c κs. search needs) (λ c κs. search needs) returns)

@@ -1,12 +1,11 @@
 -- The chain of seven, one link for each call. Assumes nothing.
-use Rattle.rapidhash.specs.Secrets.{seedOf, chain}
+use Rattle.rapidhash.proofs.Chain.{chain-of-seven}
 use borrow.Author.Needs.{needs}
 use Rattle.rapidhash.proofs.v3.seed.RapidSecrets.seed.Statement.{statement}
 use Rattle.rapidhash.proofs.v3.seed.RapidSecrets.seed.Tie as tie
 
 returns : tie.Need-returns
-unfolding seedOf chain
-returns c = cc
+returns c = search chain-of-seven
 
 pub seed-spec : {M : Type 1} → statement M
 seed-spec =
