@@ -67,7 +67,7 @@ module _ (L : ℕ) (p : Bool) (x : RapidSecrets) (s : List ℕ) where
   reached-within e = rw e (either (λ (q : Reached). q .at ≤ length s) (ltb (16 * L) (length s)) (chunks-within (16 * L) (length s)) (omega arith))
 
   -- the bytes left and the last two words
-  pub long-ends : {q : Reached} {t u v : ℕ} → q ≡ reachedOf L p x s → t ≡ tail p (x .secrets) (take (length s - q .at) (drop (q .at) s)) 0 turns (q .seed)
+  pub long-ends : {q : Reached} {t u v : ℕ} → q ≡ reachedOf L p x s → t ≡ tail p (take (length s - q .at) (drop (q .at) s)) 0 (turns (x .secrets)) (q .seed)
       → u ≡ word 8 s (length s - 16) → v ≡ word 8 s (length s - 8)
       → record { a = bitXor u (length s - q .at); b = v; seed = t; r = length s - q .at } ≡ longEnds L p x s
   unfolding longEnds tailEnds

@@ -12,20 +12,20 @@ use Rattle.rapidhash.specs.declared.util.mix.Mum.{Mum}
 use Rattle.rapidhash.specs.declared.v3.seed.RapidSecrets.{RapidSecrets}
 use Rattle.rapidhash.specs.declared.v3.rapid_const.Ends.{Ends}
 
-module _ (p : Bool) (sec s : List ℕ) (j : ℕ) where
+module _ (p : Bool) (s : List ℕ) (j : ℕ) where
   -- a step more while more than 16 (j + 1) bytes are left
-  pub tail-go : (t : ℕ) (ts : List ℕ) (x : ℕ) {y z : ℕ} → 16 * (j + 1) < length s → y ≡ mixPair p s (16 * j) (getD sec t 0) x
-      → z ≡ tail p sec s (j + 1) ts y → z ≡ tail p sec s j (t ∷ ts) x
+  pub tail-go : (t : ℕ) (ts : List ℕ) (x : ℕ) {y z : ℕ} → 16 * (j + 1) < length s → y ≡ mixPair p s (16 * j) t x → z ≡ tail p s (j + 1) ts y
+      → z ≡ tail p s j (t ∷ ts) x
   unfolding tail
   tail-go t ts x h e k = rw (lt-ltb (16 * (j + 1)) (length s) h, ← e) k
 
   -- none where there are no more
-  pub tail-stop : (t : ℕ) (ts : List ℕ) (x : ℕ) → length s ≤ 16 * (j + 1) → x ≡ tail p sec s j (t ∷ ts) x
+  pub tail-stop : (t : ℕ) (ts : List ℕ) (x : ℕ) → length s ≤ 16 * (j + 1) → x ≡ tail p s j (t ∷ ts) x
   unfolding tail
   tail-stop t ts x h = rw (le-ltb (16 * (j + 1)) (length s) h)
 
   -- nor after the sixth
-  pub tail-end : (x : ℕ) → x ≡ tail p sec s j [] x
+  pub tail-end : (x : ℕ) → x ≡ tail p s j [] x
   unfolding tail
   tail-end x = refl
 

@@ -1,7 +1,7 @@
 -- The three hashes, stated once over the number of lanes L (the scope's "The three hashes"). Chunks have 16 L bytes. Assumes nothing.
 use Prim.Native.Nat.{ℕ, zero, suc, _+_, _-_, _*_, _/_, _^_}
 use mathlib.Core.Bool.{Bool, true, false}
-use mathlib.Core.List.{List, [], _∷_}
+use mathlib.Core.List.{List, [], _∷_, map}
 use lib.Bits.{bitOr, bitXor}
 use lib.Dec.{eqb, leb, ltb}
 use lib.ListN.{length, getD, take, drop, set, replicate}
@@ -48,18 +48,18 @@ unfoldable pub joined : ℕ → List ℕ → ℕ
 joined zero lanes = 0
 joined (suc j) lanes = bitXor (joined j lanes) (getD lanes j 0)
 
--- the tail's secrets in turn
-abbrev pub turns : List ℕ
-turns = 2 ∷ 2 ∷ 1 ∷ 1 ∷ 2 ∷ 1 ∷ []
+-- the tail's secrets in turn: 2, 2, 1, 1, 2, 1
+abbrev pub turns : List ℕ → List ℕ
+turns sec = map (λ i. getD sec i 0) (2 ∷ 2 ∷ 1 ∷ 1 ∷ 2 ∷ 1 ∷ [])
 
 -- the tail over the bytes left, from step j on: a step is taken while more than 16 (j + 1) bytes are left
-unfoldable pub tail : Bool → List ℕ → List ℕ → ℕ → List ℕ → ℕ → ℕ
-tail p sec s j [] x = x
-tail p sec s j (t ∷ ts) x = pick (ltb (16 * (j + 1)) (length s)) (tail p sec s (j + 1) ts (mixPair p s (16 * j) (getD sec t 0) x)) x
+unfoldable pub tail : Bool → List ℕ → ℕ → List ℕ → ℕ → ℕ
+tail p s j [] x = x
+tail p s j (t ∷ ts) x = pick (ltb (16 * (j + 1)) (length s)) (tail p s (j + 1) ts (mixPair p s (16 * j) t x)) x
 
 -- what the last step needs of a message of more than 16 bytes: of the bytes left, the seed so far and the message's last two words
 unfoldable pub tailEnds : Bool → List ℕ → ℕ → List ℕ → ℕ → ℕ → Ends
-tailEnds p sec x left a b = record { a = bitXor a (length left); b = b; seed = tail p sec left 0 turns x; r = length left }
+tailEnds p sec x left a b = record { a = bitXor a (length left); b = b; seed = tail p left 0 (turns sec) x; r = length left }
 
 -- the chunks of a whole message: if it is longer than one, all lanes start at the seed, and then the seed is the XOR of the lanes
 unfoldable pub reachedOf : ℕ → Bool → RapidSecrets → List ℕ → Reached

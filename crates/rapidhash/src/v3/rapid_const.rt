@@ -4,9 +4,10 @@
 ghost use mathlib.Core.Path.{_≡_};
 ghost use mathlib.Core.Bool.{true, false};
 ghost use Prim.Native.Nat.{_+_, _*_, _<_, _≤_};
+ghost use mathlib.Core.List.{[], _∷_};
 ghost use lib.ListN.{length, replicate};
 ghost use Rattle.rapidhash.specs.Secrets.{seedCpp};
-ghost use Rattle.rapidhash.specs.Hash.{lanesOf, mixPair, chunkStep, mixedOf, joined, turns, tail};
+ghost use Rattle.rapidhash.specs.Hash.{lanesOf, mixPair, chunkStep, mixedOf, joined, tail};
 ghost use Rattle.rapidhash.specs.Hash.{reachedOf, longEnds, endsOf, avalanched, lastOf, hashOf};
 use crate::util::mix::rapid_mix;
 use crate::util::mix::rapid_mum;
@@ -172,7 +173,7 @@ fn rapidhash_core_cold(
     let s = secrets.secrets;
     let q = after_chunks(data, secrets, size, compact, protected);
     let at = q.at;
-    let x = tail_steps(&data[at..], s, q.seed, protected);
+    let x = tail_steps(&data[at..], s[1], s[2], q.seed, protected);
     let r = (n - at) as u64;
     Ends {
         a: word8(data, n - 16) ^ r,
@@ -342,36 +343,36 @@ fn joined_lanes(lanes: [u64; 7], count: usize) -> u64
     x
 }
 
-// The bytes left after the chunks, 16 at a time while more than 16 are left. The steps stand one after another and
-// not in a loop, so that each secret is at hand; longer inputs than a chunk have no step more.
-pub fn tail_steps(left: &[u8], secrets: [u64; 7], seed: u64, protected: bool) -> u64
-    ensures { λ r. ⌜ r ≡ tail protected secrets (now (left .entry)) 0 turns seed ⌝ }
+// The bytes left after the chunks, 16 at a time while more than 16 are left, with secrets 1 and 2. The steps stand one
+// after another and not in a loop, so that each secret is at hand; longer inputs than a chunk have no step more.
+pub fn tail_steps(left: &[u8], s1: u64, s2: u64, seed: u64, protected: bool) -> u64
+    ensures { λ r. ⌜ r ≡ tail protected (now (left .entry)) 0 (s2 ∷ s2 ∷ s1 ∷ s1 ∷ s2 ∷ s1 ∷ []) seed ⌝ }
 {
     let r = left.len();
     if r <= 16 {
         return seed;
     }
-    let x0 = mix_pair(left, 0, secrets[2], seed, protected);
+    let x0 = mix_pair(left, 0, s2, seed, protected);
     if r <= 32 {
         return x0;
     }
-    let x1 = mix_pair(left, 16, secrets[2], x0, protected);
+    let x1 = mix_pair(left, 16, s2, x0, protected);
     if r <= 48 {
         return x1;
     }
-    let x2 = mix_pair(left, 32, secrets[1], x1, protected);
+    let x2 = mix_pair(left, 32, s1, x1, protected);
     if r <= 64 {
         return x2;
     }
-    let x3 = mix_pair(left, 48, secrets[1], x2, protected);
+    let x3 = mix_pair(left, 48, s1, x2, protected);
     if r <= 80 {
         return x3;
     }
-    let x4 = mix_pair(left, 64, secrets[2], x3, protected);
+    let x4 = mix_pair(left, 64, s2, x3, protected);
     if r <= 96 {
         return x4;
     }
-    mix_pair(left, 80, secrets[1], x4, protected)
+    mix_pair(left, 80, s1, x4, protected)
 }
 
 // The last step.

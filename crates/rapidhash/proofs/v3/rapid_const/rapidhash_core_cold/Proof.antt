@@ -1,5 +1,4 @@
 -- The place that the chunks reach is within the message. Assumes nothing.
-use native.Mathlib.Omega.{arith}
 use Rattle.rapidhash.proofs.Classes.{reached-within, long-ends}
 use borrow.Author.Needs.{needs}
 use Rattle.rapidhash.proofs.v3.rapid_const.rapidhash_core_cold.Statement.{statement}
@@ -24,6 +23,8 @@ rapidhash-core-cold-spec =
     (λ c κs. search needs)
     sub-tail-steps
     part-tail-steps-start
+    (λ c. search needs)
+    (λ c. search needs)
     (λ c. search needs)
     (λ c κs. search needs)
     sub-r

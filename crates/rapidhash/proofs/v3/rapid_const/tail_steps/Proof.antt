@@ -30,21 +30,15 @@ tail-steps-spec =
     tie.close
     (tie.spec
     returns
-    (λ c. search needs)
     (λ c κs. search needs)
     returns-2
-    (λ c. search needs)
     (λ c κs. search needs)
     returns-3
-    (λ c. search needs)
     (λ c κs. search needs)
     returns-4
-    (λ c. search needs)
     (λ c κs. search needs)
     returns-5
-    (λ c. search needs)
     (λ c κs. search needs)
     returns-6
-    (λ c. search needs)
     (λ c κs. search needs)
     returns-7)
