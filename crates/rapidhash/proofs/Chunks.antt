@@ -9,9 +9,9 @@ use native.Mathlib.Nat.{div-eq-of-lt, div-eq-sub-div, mul-div-le, mul-suc}
 use lib.ListN.{length, take, drop}
 use lib.Seq.{drop-drop}
 use Rattle.rapidhash.specs.Hash.{lanesOf, chunks, chunkStep, lanesAfter, mixedOf}
-use Rattle.rapidhash.specs.declared.v3.rapid_const.Mixed.{Mixed}
-use Rattle.rapidhash.specs.declared.v3.rapid_const.Size.{Size}
-use Rattle.rapidhash.specs.declared.v3.rapid_const.Size.the-variants.{Full}
+use Rattle.rapidhash.specs.declared.v3.lanes.Mixed.{Mixed}
+use Rattle.rapidhash.specs.declared.v3.lanes.Size.{Size}
+use Rattle.rapidhash.specs.declared.v3.lanes.Size.the-variants.{Full}
 
 -- while no more than w bytes are left no chunk is mixed
 pub chunks-none : (w n : ℕ) → 0 < w → n ≤ w → chunks w n ≡ 0

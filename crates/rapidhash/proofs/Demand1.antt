@@ -20,8 +20,8 @@ use Rattle.rapidhash.proofs.v3.rapid_const.rapidhash_v3_seeded.Reads as
 use Rattle.rapidhash.proofs.v3.rapid_const.rapidhash_v3_inline.Reads as rapidhash-v3-inline
 use Rattle.rapidhash.proofs.v3.rapid_const.rapidhash_v3_micro_inline.Reads as rapidhash-v3-micro-inline
 use Rattle.rapidhash.proofs.v3.rapid_const.rapidhash_v3_nano_inline.Reads as rapidhash-v3-nano-inline
-use Rattle.rapidhash.proofs.v3.rapid_const.mix_chunks.Reads as mix-chunks
-use Rattle.rapidhash.proofs.v3.rapid_const.join.Reads as join
+use Rattle.rapidhash.proofs.v3.lanes.mix_chunks.Reads as mix-chunks
+use Rattle.rapidhash.proofs.v3.lanes.join.Reads as join
 use Rattle.rapidhash.proofs.v3.rapid_const.tail_steps.Reads as tail-steps
 use Rattle.rapidhash.proofs.v3.rapid_const.last_step.Reads as last-step
 

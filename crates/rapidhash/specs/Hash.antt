@@ -9,9 +9,9 @@ use Rattle.rapidhash.specs.Choice.{pick}
 use Rattle.rapidhash.specs.Words.{word}
 use Rattle.rapidhash.specs.Mix.{mum, mix}
 use Rattle.rapidhash.specs.declared.v3.seed.RapidSecrets.{RapidSecrets}
-use Rattle.rapidhash.specs.declared.v3.rapid_const.Size.{Size}
-use Rattle.rapidhash.specs.declared.v3.rapid_const.Size.the-variants.{Full, Micro, Nano}
-use Rattle.rapidhash.specs.declared.v3.rapid_const.Mixed.{Mixed}
+use Rattle.rapidhash.specs.declared.v3.lanes.Size.{Size}
+use Rattle.rapidhash.specs.declared.v3.lanes.Size.the-variants.{Full, Micro, Nano}
+use Rattle.rapidhash.specs.declared.v3.lanes.Mixed.{Mixed}
 use Rattle.rapidhash.specs.declared.v3.rapid_const.Reached.{Reached}
 use Rattle.rapidhash.specs.declared.v3.rapid_const.Ends.{Ends}
 

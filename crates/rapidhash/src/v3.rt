@@ -1,2 +1,3 @@
+pub mod lanes;
 pub mod rapid_const;
 pub mod seed;

@@ -1,33 +1,23 @@
-// The one-shot hashes, as the Rust's v3/rapid_const. The three sizes differ in their number of lanes alone, so the
-// path by length, the tail and the last step stand here once. The lane loop has the lane count as a literal at each
-// call: the compiler then unrolls it, keeps the lanes in registers and lifts the flag out.
+// The one-shot hashes, as the Rust's v3/rapid_const. The path by length, the tail and the last step are the same at
+// every size, so they stand here once.
 ghost use mathlib.Core.Path.{_≡_};
 ghost use mathlib.Core.Bool.{true, false};
-ghost use Prim.Native.Nat.{_+_, _*_, _<_, _≤_};
 ghost use mathlib.Core.List.{[], _∷_};
-ghost use lib.ListN.{length, replicate};
+ghost use Prim.Native.Nat.{_<_};
+ghost use lib.ListN.{length};
 ghost use Rattle.rapidhash.specs.Secrets.{seedCpp};
-ghost use Rattle.rapidhash.specs.Hash.{lanesOf, mixPair, chunkStep, mixedOf, joined, tail};
-ghost use Rattle.rapidhash.specs.Hash.{reachedOf, longEnds, endsOf, avalanched, lastOf, hashOf};
+ghost use Rattle.rapidhash.specs.Hash.{lanesOf, tail, reachedOf, longEnds, endsOf, avalanched, lastOf, hashOf};
 use crate::util::mix::rapid_mix;
 use crate::util::mix::rapid_mum;
 use crate::util::read::wide;
 use crate::util::read::word4;
 use crate::util::read::word8;
+use crate::v3::lanes::Size;
+use crate::v3::lanes::join;
+use crate::v3::lanes::lane_count;
+use crate::v3::lanes::mix_chunks;
+use crate::v3::lanes::mix_pair;
 use crate::v3::seed::RapidSecrets;
-
-// Which of the three hashes: 7, 5 or 3 lanes.
-pub enum Size {
-    Full,
-    Micro,
-    Nano,
-}
-
-// Lanes that have taken whole chunks, and the place that these reach.
-pub struct Mixed {
-    pub lanes: [u64; 7],
-    pub at: usize,
-}
 
 // The seed that whole chunks leave, and the place that they reach.
 pub struct Reached {
@@ -206,143 +196,6 @@ fn after_chunks(
     }
 }
 
-// Every chunk that at least one byte follows, into the given lanes.
-pub fn mix_chunks(
-    data: &[u8],
-    secrets: [u64; 7],
-    lanes: [u64; 7],
-    size: Size,
-    compact: bool,
-    protected: bool,
-) -> Mixed
-    ensures { λ r. ⌜ r ≡ mixedOf (lanesOf size) protected secrets lanes (now («data» .entry)) ⌝ }
-{
-    if let Size::Full = size {
-        if !compact {
-            return two_by_two(data, secrets, lanes, protected);
-        }
-    }
-    chunk_by_chunk(data, secrets, lanes, size, protected)
-}
-
-// The compact loop: a chunk a turn.
-fn chunk_by_chunk(
-    data: &[u8],
-    secrets: [u64; 7],
-    start: [u64; 7],
-    size: Size,
-    protected: bool,
-) -> Mixed
-    ensures { λ r. ⌜ r ≡ mixedOf (lanesOf size) protected secrets start (now («data» .entry)) ⌝ }
-{
-    let w = 16 * lane_count(size);
-    let mut l = start;
-    let mut at = 0;
-    while w < data.len() - at {
-        let next = mix_chunk(&data[at..at + w], secrets, l, size, protected);
-        l = next;
-        at += w;
-    }
-    Mixed { lanes: l, at }
-}
-
-// The loop of the full hash that is not compact: 224 bytes a turn, and at the end a chunk more where one is left.
-fn two_by_two(data: &[u8], secrets: [u64; 7], start: [u64; 7], protected: bool) -> Mixed
-    ensures { λ r. ⌜ r ≡ mixedOf 7 protected secrets start (now («data» .entry)) ⌝ }
-{
-    let mut l = start;
-    let mut at = 0;
-    while 224 < data.len() - at {
-        let half = chunk_step(&data[at..at + 112], secrets, l, 7, protected);
-        let next = chunk_step(&data[at + 112..at + 224], secrets, half, 7, protected);
-        l = next;
-        at += 224;
-    }
-    if 112 < data.len() - at {
-        let next = chunk_step(&data[at..at + 112], secrets, l, 7, protected);
-        return Mixed {
-            lanes: next,
-            at: at + 112,
-        };
-    }
-    Mixed { lanes: l, at }
-}
-
-// One chunk into the lanes of a size. Each arm has its lane count as a literal.
-fn mix_chunk(
-    chunk: &[u8],
-    secrets: [u64; 7],
-    lanes: [u64; 7],
-    size: Size,
-    protected: bool,
-) -> [u64; 7]
-    requires { ⌜ 16 * lanesOf size ≤ length (now chunk) ⌝ }
-    ensures { λ r. ⌜ r ≡ chunkStep (lanesOf size) protected secrets (now (chunk .entry)) lanes ⌝ }
-{
-    match size {
-        Size::Full => chunk_step(chunk, secrets, lanes, 7, protected),
-        Size::Micro => chunk_step(chunk, secrets, lanes, 5, protected),
-        Size::Nano => chunk_step(chunk, secrets, lanes, 3, protected),
-    }
-}
-
-// One chunk into the first count lanes.
-fn chunk_step(
-    chunk: &[u8],
-    secrets: [u64; 7],
-    start: [u64; 7],
-    count: usize,
-    protected: bool,
-) -> [u64; 7]
-    requires { ⌜ (count ≤ 7) × (16 * count ≤ length (now chunk)) ⌝ }
-    ensures { λ r. ⌜ r ≡ chunkStep count protected secrets (now (chunk .entry)) start ⌝ }
-{
-    let mut l = start;
-    let mut j = 0;
-    while j < count {
-        l[j] = mix_pair(chunk, 16 * j, secrets[j], l[j], protected);
-        j += 1;
-    }
-    l
-}
-
-// Two words at a place, with a secret, into x.
-fn mix_pair(bytes: &[u8], at: usize, secret: u64, x: u64, protected: bool) -> u64
-    requires { ⌜ at + 16 ≤ length (now bytes) ⌝ }
-    ensures { λ r. ⌜ r ≡ mixPair protected (now (bytes .entry)) at secret x ⌝ }
-{
-    rapid_mix(
-        word8(bytes, at) ^ secret,
-        word8(bytes, at + 8) ^ x,
-        protected,
-    )
-}
-
-// The XOR of the lanes of a size. Each arm has its lane count as a literal.
-pub fn join(lanes: [u64; 7], size: Size) -> u64
-    ensures { λ r. ⌜ r ≡ joined (lanesOf size) lanes ⌝ }
-{
-    match size {
-        Size::Full => joined_lanes(lanes, 7),
-        Size::Micro => joined_lanes(lanes, 5),
-        Size::Nano => joined_lanes(lanes, 3),
-    }
-}
-
-// The XOR of the first count lanes.
-fn joined_lanes(lanes: [u64; 7], count: usize) -> u64
-    requires { ⌜ count ≤ 7 ⌝ }
-    ensures { λ r. ⌜ r ≡ joined count lanes ⌝ }
-{
-    let mut x = 0;
-    let mut j = 0;
-    while j < count {
-        x = x ^ lanes[j];
-        j += 1;
-    }
-    x
-}
-
 // The bytes left after the chunks, 16 at a time while more than 16 are left, with secrets 1 and 2. The steps stand one
 // after another and not in a loop, so that each secret is at hand; longer inputs than a chunk have no step more.
 pub fn tail_steps(left: &[u8], s1: u64, s2: u64, seed: u64, protected: bool) -> u64
@@ -396,15 +249,4 @@ fn rapidhash_finish(a: u64, b: u64, remainder: u64, secrets: [u64; 7], protected
         b ^ secrets[1] ^ remainder,
         protected,
     )
-}
-
-// The number of lanes.
-fn lane_count(size: Size) -> usize
-    ensures { λ r. ⌜ (r ≡ lanesOf size) × (0 < r) × (r ≤ 7) ⌝ }
-{
-    match size {
-        Size::Full => 7,
-        Size::Micro => 5,
-        Size::Nano => 3,
-    }
 }

@@ -6,8 +6,8 @@ use native.Mathlib.Omega.{arith}
 use lib.ListN.{length, length-take, length-drop}
 use Rattle.rapidhash.specs.Hash.{lanesOf, mixedOf}
 use Rattle.rapidhash.proofs.Chunks.{ahead, ahead-start, ahead-turn, ahead-done}
-use Rattle.rapidhash.proofs.v3.rapid_const.chunk_by_chunk.Statement.{statement}
-use Rattle.rapidhash.proofs.v3.rapid_const.chunk_by_chunk.Tie as tie
+use Rattle.rapidhash.proofs.v3.lanes.chunk_by_chunk.Statement.{statement}
+use Rattle.rapidhash.proofs.v3.lanes.chunk_by_chunk.Tie as tie
 
 abbrev Inv-loop : tie.InvT-loop
 Inv-loop «data» secrets size protected w l₀ at₀ l at =

@@ -6,8 +6,8 @@ use native.Mathlib.Omega.{arith}
 use lib.ListN.{length, length-take, length-drop}
 use Rattle.rapidhash.specs.Hash.{mixedOf}
 use Rattle.rapidhash.proofs.Chunks.{ahead, ahead-start, ahead-turn, ahead-done}
-use Rattle.rapidhash.proofs.v3.rapid_const.two_by_two.Statement.{statement}
-use Rattle.rapidhash.proofs.v3.rapid_const.two_by_two.Tie as tie
+use Rattle.rapidhash.proofs.v3.lanes.two_by_two.Statement.{statement}
+use Rattle.rapidhash.proofs.v3.lanes.two_by_two.Tie as tie
 
 abbrev Inv-loop : tie.InvT-loop
 Inv-loop «data» secrets protected l₀ at₀ l at =

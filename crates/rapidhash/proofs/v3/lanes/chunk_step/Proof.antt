@@ -5,8 +5,8 @@ use borrow.Author.Needs.{needs}
 use native.Mathlib.Omega.{arith}
 use Rattle.rapidhash.specs.Hash.{chunkStep}
 use Rattle.rapidhash.proofs.Lanes.{step-more, step-all}
-use Rattle.rapidhash.proofs.v3.rapid_const.chunk_step.Statement.{statement}
-use Rattle.rapidhash.proofs.v3.rapid_const.chunk_step.Tie as tie
+use Rattle.rapidhash.proofs.v3.lanes.chunk_step.Statement.{statement}
+use Rattle.rapidhash.proofs.v3.lanes.chunk_step.Tie as tie
 
 abbrev Inv-loop : tie.InvT-loop
 Inv-loop chunk count protected secrets l₀ j₀ l j = (j ≤ count) × (l ≡ chunkStep j protected secrets chunk l₀)

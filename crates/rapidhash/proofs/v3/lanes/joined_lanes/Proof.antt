@@ -5,8 +5,8 @@ use borrow.Author.Needs.{needs}
 use native.Mathlib.Omega.{arith}
 use Rattle.rapidhash.specs.Hash.{joined}
 use Rattle.rapidhash.proofs.Lanes.{joined-more, joined-all}
-use Rattle.rapidhash.proofs.v3.rapid_const.joined_lanes.Statement.{statement}
-use Rattle.rapidhash.proofs.v3.rapid_const.joined_lanes.Tie as tie
+use Rattle.rapidhash.proofs.v3.lanes.joined_lanes.Statement.{statement}
+use Rattle.rapidhash.proofs.v3.lanes.joined_lanes.Tie as tie
 
 abbrev Inv-loop : tie.InvT-loop
 Inv-loop count lanes x₀ j₀ x j = (j ≤ count) × (x ≡ joined j lanes)

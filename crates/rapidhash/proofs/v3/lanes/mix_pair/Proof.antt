@@ -1,8 +1,8 @@
 -- The rule itself. Assumes nothing.
 use Rattle.rapidhash.proofs.Folded.{pair-words}
 use borrow.Author.Needs.{needs}
-use Rattle.rapidhash.proofs.v3.rapid_const.mix_pair.Statement.{statement}
-use Rattle.rapidhash.proofs.v3.rapid_const.mix_pair.Tie as tie
+use Rattle.rapidhash.proofs.v3.lanes.mix_pair.Statement.{statement}
+use Rattle.rapidhash.proofs.v3.lanes.mix_pair.Tie as tie
 
 returns : tie.Need-returns
 returns c = search pair-words

@@ -1,7 +1,7 @@
 -- One arm for each size: what the arm knows of the size is put in the place of it. Assumes nothing.
 use borrow.Author.Needs.{needs}
-use Rattle.rapidhash.proofs.v3.rapid_const.join.Statement.{statement}
-use Rattle.rapidhash.proofs.v3.rapid_const.join.Tie as tie
+use Rattle.rapidhash.proofs.v3.lanes.join.Statement.{statement}
+use Rattle.rapidhash.proofs.v3.lanes.join.Tie as tie
 
 returns : tie.Need-returns
 returns c = rw (c .before .enum-told .given .1) (c .joined-lanes .ensures)

@@ -1,8 +1,8 @@
 -- Both loops give the same: `compact` is in no rule. Assumes nothing.
 use Rattle.rapidhash.proofs.Chunks.{full-is}
 use borrow.Author.Needs.{needs}
-use Rattle.rapidhash.proofs.v3.rapid_const.mix_chunks.Statement.{statement}
-use Rattle.rapidhash.proofs.v3.rapid_const.mix_chunks.Tie as tie
+use Rattle.rapidhash.proofs.v3.lanes.mix_chunks.Statement.{statement}
+use Rattle.rapidhash.proofs.v3.lanes.mix_chunks.Tie as tie
 
 returns : tie.Need-returns
 returns c = search full-is

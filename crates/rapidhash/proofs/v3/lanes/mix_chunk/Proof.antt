@@ -1,7 +1,7 @@
 -- One arm for each size: what the arm knows of the size is put in the place of it. Assumes nothing.
 use borrow.Author.Needs.{needs}
-use Rattle.rapidhash.proofs.v3.rapid_const.mix_chunk.Statement.{statement}
-use Rattle.rapidhash.proofs.v3.rapid_const.mix_chunk.Tie as tie
+use Rattle.rapidhash.proofs.v3.lanes.mix_chunk.Statement.{statement}
+use Rattle.rapidhash.proofs.v3.lanes.mix_chunk.Tie as tie
 
 chunk-step-requires : tie.Need-chunk-step-requires
 chunk-step-requires c κs = (search needs, rw (c .enum-told .given .1) at (c .before .before .before .pre))
