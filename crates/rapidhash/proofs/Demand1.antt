@@ -10,6 +10,7 @@ use Rattle.rapidhash.proofs.util.mix.rapid_mum.Reads as rapid-mum
 use Rattle.rapidhash.proofs.util.mix.rapid_mix.Reads as rapid-mix
 use Rattle.rapidhash.proofs.util.read.read_u64.Reads as read-u64
 use Rattle.rapidhash.proofs.util.read.read_u32.Reads as read-u32
+use Rattle.rapidhash.proofs.util.read.all_zero.Reads as all-zero
 use Rattle.rapidhash.proofs.v3.seed.RapidSecrets.seed.Reads as seed
 use Rattle.rapidhash.proofs.v3.seed.RapidSecrets.reseed.Reads as reseed
 use Rattle.rapidhash.proofs.v3.seed.RapidSecrets.seed_cpp.Reads as seed-cpp
@@ -22,6 +23,7 @@ use Rattle.rapidhash.proofs.v3.rapid_const.rapidhash_v3_micro_inline.Re
 use Rattle.rapidhash.proofs.v3.rapid_const.rapidhash_v3_nano_inline.Reads as rapidhash-v3-nano-inline
 use Rattle.rapidhash.proofs.v3.lanes.mix_chunks.Reads as mix-chunks
 use Rattle.rapidhash.proofs.v3.lanes.join.Reads as join
+use Rattle.rapidhash.proofs.v3.lanes.mix_first.Reads as mix-first
 use Rattle.rapidhash.proofs.v3.rapid_const.tail_steps.Reads as tail-steps
 use Rattle.rapidhash.proofs.v3.rapid_const.last_step.Reads as last-step
 
@@ -93,3 +95,9 @@ tail-steps-one κ a r₁ r₂ s p q = one p q
 
 pub last-step-one : OneAnswer last-step.Post
 last-step-one κ a r₁ r₂ s p q = one p q
+
+pub all-zero-one : OneAnswer all-zero.Post
+all-zero-one κ a r₁ r₂ s p q = one p q
+
+pub mix-first-one : OneAnswer mix-first.Post
+mix-first-one κ a r₁ r₂ s p q = one p q

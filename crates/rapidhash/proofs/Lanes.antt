@@ -7,9 +7,10 @@ use mathlib.Core.List.{List}
 use native.Mathlib.Omega.{arith}
 use native.Mathlib.Numerals.{add-one}
 use lib.Bits.{bitXor}
-use lib.ListN.{length, getD, set, length-set}
+use lib.ListN.{length, getD, take, set, length-set}
 use lib.Seq.{getD-set-other}
-use Rattle.rapidhash.specs.Hash.{mixPair, chunkStep, joined}
+use borrow.Author.Tests.{le-leb, lt-leb}
+use Rattle.rapidhash.specs.Hash.{mixPair, chunkStep, firstOf, joined}
 
 -- what holds of the first j holds of all n, once j is no less
 at-end : {A : Type 0} (f : ℕ → A) {x : A} {j n : ℕ} → j ≤ n → n ≤ j → x ≡ f j → x ≡ f n
@@ -50,3 +51,14 @@ module _ (p : Bool) (sec c l : List ℕ) where
   -- and all
   pub step-all : {j n : ℕ} {m : List ℕ} → j ≤ n → n ≤ j → m ≡ chunkStep j p sec c l → m ≡ chunkStep n p sec c l
   step-all = at-end (λ j. chunkStep j p sec c l)
+
+module _ (L : ℕ) (p : Bool) (sec l s : List ℕ) where
+  -- no first chunk where the bytes are fewer than one
+  pub first-none : length s < 16 * L → l ≡ firstOf L p sec l s
+  unfolding firstOf
+  first-none h = rw (lt-leb (16 * L) (length s) h)
+
+  -- else the first w of them, where w is a chunk's width
+  pub first-some : (w : ℕ) {m : List ℕ} → w ≡ 16 * L → 16 * L ≤ length s → m ≡ chunkStep L p sec (take w s) l → m ≡ firstOf L p sec l s
+  unfolding firstOf
+  first-some w e h k = rw (le-leb (16 * L) (length s) h, ← e) k

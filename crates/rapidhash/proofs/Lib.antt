@@ -11,3 +11,4 @@ pub mod Steps
 pub mod Tests
 pub mod Words
 pub mod WorkedByHand
+pub mod Zeros

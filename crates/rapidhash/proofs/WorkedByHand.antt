@@ -1,6 +1,7 @@
 -- The examples worked by hand, closed by computation. Assumes nothing.
 use mathlib.Core.Path.{_≡_, refl}
 use mathlib.Core.Bool.{true}
+use Rattle.rapidhash.specs.Choice.{every, allAre}
 use Rattle.rapidhash.specs.Words.{word}
 use Rattle.rapidhash.specs.Mix.{low, high, mum, mix}
 use Rattle.rapidhash.specs.Secrets.{defaults, mend, repair, stirred, premix, chain, seedOf}
@@ -20,9 +21,9 @@ use Rattle.rapidhash.specs.Hash.{
   lastOf,
   hashOf,
 }
-use Rattle.rapidhash.specs.Worked.{every, worked, W1, W2, W3, W4, W5, W6, W7, W8, W9, W10, W11}
+use Rattle.rapidhash.specs.Worked.{worked, W1, W2, W3, W4, W5, W6, W7, W8, W9, W10, W11}
 
 -- every example of the table is what the rules compute
 pub worked-by-hand : every worked ≡ true
-unfolding worked W1 W2 W3 W4 W5 W6 W7 W8 W9 W10 W11 word low high mum mix defaults mend repair stirred premix chain seedOf chunks mixPair chunkStep lanesAfter mixedOf joined tail tailEnds reachedOf longEnds endsOf avalanched lastOf hashOf
+unfolding allAre worked W1 W2 W3 W4 W5 W6 W7 W8 W9 W10 W11 word low high mum mix defaults mend repair stirred premix chain seedOf chunks mixPair chunkStep lanesAfter mixedOf joined tail tailEnds reachedOf longEnds endsOf avalanched lastOf hashOf
 worked-by-hand = refl

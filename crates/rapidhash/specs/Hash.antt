@@ -34,6 +34,10 @@ unfoldable pub chunkStep : ℕ → Bool → List ℕ → List ℕ → List ℕ �
 chunkStep zero p sec c lanes = lanes
 chunkStep (suc j) p sec c lanes = set (chunkStep j p sec c lanes) j (mixPair p c (16 * j) (getD sec j 0) (getD lanes j 0))
 
+-- the first chunk of s into the lanes, if s has one
+unfoldable pub firstOf : ℕ → Bool → List ℕ → List ℕ → List ℕ → List ℕ
+firstOf L p sec lanes s = pick (leb (16 * L) (length s)) (chunkStep L p sec (take (16 * L) s) lanes) lanes
+
 -- k chunks of s, one after another
 unfoldable pub lanesAfter : ℕ → Bool → List ℕ → ℕ → List ℕ → List ℕ → List ℕ
 lanesAfter L p sec zero lanes s = lanes

@@ -1,19 +1,14 @@
 -- The examples that were worked by hand (the scope's "Numbers worked by hand"), as one table of tests. Assumes nothing.
 use Prim.Native.Nat.{ℕ, _+_, _-_, _^_}
 use mathlib.Core.Bool.{Bool, true, false}
-use mathlib.Core.List.{List, [], _∷_, _++_, map}
+use mathlib.Core.List.{List, [], _∷_, _++_}
 use lib.Dec.{eqb}
 use lib.ListN.{replicate}
-use Rattle.rapidhash.specs.Choice.{pick}
+use Rattle.rapidhash.specs.Choice.{allAre}
 use Rattle.rapidhash.specs.Mix.{mum, mix}
 use Rattle.rapidhash.specs.Secrets.{repair, seedOf}
 use Rattle.rapidhash.specs.Hash.{chunks, endsOf, hashOf}
 use Rattle.rapidhash.specs.declared.v3.seed.RapidSecrets.{RapidSecrets}
-
--- whether every test of a table holds
-abbrev pub every : List Bool → Bool
-every [] = true
-every (t ∷ ts) = pick t (every ts) false
 
 -- seed 0 and all secrets 0, for W5 to W8
 abbrev pub zeros : RapidSecrets
@@ -65,7 +60,7 @@ W8 = eqb (plain false false (replicate 17 0)) 0 ∷ eqb (plain true false (repli
 
 -- W9: the seed and all seven secrets that `seed` makes of one number are that number
 unfoldable pub W9 : List Bool
-W9 = eqb (seedOf fixed .seed) fixed ∷ map (λ x. eqb x fixed) (seedOf fixed .secrets)
+W9 = eqb (seedOf fixed .seed) fixed ∷ allAre fixed (seedOf fixed .secrets) ∷ []
 
 -- W10: repair of 0
 unfoldable pub W10 : List Bool

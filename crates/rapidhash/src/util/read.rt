@@ -5,6 +5,7 @@ ghost use mathlib.Core.Path.{_≡_};
 ghost use Prim.Native.Nat.{_+_, _^_, _<_, _≤_};
 ghost use lib.Dec.{leb};
 ghost use lib.ListN.{length};
+ghost use Rattle.rapidhash.specs.Choice.{allAre};
 ghost use Rattle.rapidhash.specs.Words.{word};
 ghost use Rattle.rapidhash.specs.Numbers.{returned, readOf};
 
@@ -34,6 +35,32 @@ pub fn read_u32(bytes: &[u8], offset: usize) -> Found
     } else {
         Found::PastEnd
     }
+}
+
+// Whether every byte is zero. By words, with an exit at the first that is not, so that a test of 128 bytes costs little.
+pub fn all_zero(bytes: &[u8]) -> bool
+    ensures { λ r. ⌜ r ≡ allAre 0 (now (bytes .entry)) ⌝ }
+{
+    let mut at = 0;
+    while 8 <= bytes.len() - at {
+        if word8(bytes, at) != 0 {
+            return false;
+        }
+        at += 8;
+    }
+    zero_bytes(&bytes[at..])
+}
+
+// The same by bytes, for the few that make no word.
+fn zero_bytes(bytes: &[u8]) -> bool
+    ensures { λ r. ⌜ r ≡ allAre 0 (now (bytes .entry)) ⌝ }
+{
+    for i in 0..bytes.len() {
+        if bytes[i] != 0 {
+            return false;
+        }
+    }
+    true
 }
 
 // Whether count bytes stand at an offset. No sum is made, so an offset near 2^64 cannot wrap.

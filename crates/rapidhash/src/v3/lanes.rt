@@ -3,7 +3,7 @@
 ghost use mathlib.Core.Path.{_≡_};
 ghost use Prim.Native.Nat.{_+_, _*_, _<_, _≤_};
 ghost use lib.ListN.{length};
-ghost use Rattle.rapidhash.specs.Hash.{lanesOf, mixPair, chunkStep, mixedOf, joined};
+ghost use Rattle.rapidhash.specs.Hash.{lanesOf, mixPair, chunkStep, firstOf, mixedOf, joined};
 use crate::util::mix::rapid_mix;
 use crate::util::read::word8;
 
@@ -80,6 +80,23 @@ fn two_by_two(data: &[u8], secrets: [u64; 7], start: [u64; 7], protected: bool) 
         };
     }
     Mixed { lanes: l, at }
+}
+
+// The first chunk of the bytes, whether or not one follows it; where they are fewer than a chunk, nothing.
+pub fn mix_first(
+    bytes: &[u8],
+    secrets: [u64; 7],
+    lanes: [u64; 7],
+    size: Size,
+    protected: bool,
+) -> [u64; 7]
+    ensures { λ r. ⌜ r ≡ firstOf (lanesOf size) protected secrets lanes (now (bytes .entry)) ⌝ }
+{
+    let w = 16 * lane_count(size);
+    if bytes.len() < w {
+        return lanes;
+    }
+    mix_chunk(&bytes[..w], secrets, lanes, size, protected)
 }
 
 // One chunk into the lanes of a size. Each arm has its lane count as a literal.
