@@ -1,0 +1,15 @@
+pub mod After
+pub mod Buffer
+pub mod Clauses
+pub mod Demand3
+pub mod Feed
+pub mod Good
+pub mod Hold
+pub mod ReadBack
+pub mod Slide
+pub mod Sound
+pub mod Whole
+pub mod Writes
+pub mod ChunkEnd
+pub mod Answers
+pub mod Ending

@@ -1,0 +1,58 @@
+-- While no chunk is mixed the bytes that wait are the message; else the tail runs over them. Assumes nothing.
+use lib.ListN.{length}
+use mathlib.Core.Path.{_≡_}
+use native.Mathlib.Omega.{arith}
+use Rattle.stream.proofs.Ending.{hash-first, hash-later}
+use borrow.Author.Needs.{needs}
+use Rattle.stream.proofs.rapid_stream_hasher.hash_of.Statement.{statement}
+use Rattle.stream.proofs.rapid_stream_hasher.hash_of.Tie as tie
+
+-- the buffer is whole
+sized : (c : tie.Start) → length (c .args .h .buffer) ≡ 128
+sized c = search needs
+
+part-rapidhash-v3-inline-end : tie.Need-part-rapidhash-v3-inline-end
+part-rapidhash-v3-inline-end c = let e = sized (c .before .before .before .before .before .before) in omega arith
+
+returns : tie.Need-returns
+returns c = hash-first (c .before .before .before .before .before .before .before .before .args .h) (sized (c .before .before .before .before .before .before .before .before)) (c .before .before .before .before .before .before .before .before .pre) (c .before .before .before .if1 .taken) (c .rapidhash-v3-inline .ensures)
+
+word-at-requires : tie.Need-word-at-requires
+word-at-requires c κs = let e = sized (c .before .before .before .before .before .before .before .before .before) in omega arith
+
+word-at-requires-2 : tie.Need-word-at-requires-2
+word-at-requires-2 c κs = let e = sized (c .before .before .before .before .before .before .before .before .before .before .before) in omega arith
+
+part-tail-steps-end : tie.Need-part-tail-steps-end
+part-tail-steps-end c = let e = sized (c .before .before .before .before .before .before .before .before .before .before .before .before .before) in omega arith
+
+returns-2 : tie.Need-returns-2
+returns-2 c =
+    hash-later (c .before .before .before .before .before .before .before .before .before .before .before .before .before .before .before .before .args .h) (sized (c .before .before .before .before .before .before .before .before .before .before .before .before .before .before .before .before)) (c .before .before .before .before .before .before .before .before .before .before .before .before .before .before .before .before .pre) (c .before .before .before .before .before .before .before .before .before .before .before .if1 .left) (c .before .before .before .before .before .before .word-at .ensures) (c .before .before .before .before .word-at2 .ensures)
+    (c .before .before .before .before .before .before .before .before .join .ensures) (c .before .tail-steps .ensures) (c .last-step .ensures)
+
+pub hash-of-spec : {M : Type 1} → statement M
+hash-of-spec =
+    tie.close
+    (tie.spec
+    (λ c. search needs)
+    (λ c. search needs)
+    (λ c. search needs)
+    part-rapidhash-v3-inline-end
+    (λ c κs. search needs)
+    returns
+    (λ c κs. search needs)
+    (λ c. search needs)
+    word-at-requires
+    (λ c. search needs)
+    (λ c. search needs)
+    word-at-requires-2
+    (λ c. search needs)
+    (λ c. search needs)
+    (λ c. search needs)
+    part-tail-steps-end
+    (λ c. search needs)
+    (λ c. search needs)
+    (λ c κs. search needs)
+    (λ c κs. search needs)
+    returns-2)

@@ -1,0 +1,46 @@
+-- Sequences of calls, run on states and run on a plain list of the accepted bytes. Assumes nothing.
+use Prim.Native.Nat.{ℕ, _+_, _-_}
+use mathlib.Core.Bool.{Bool}
+use mathlib.Core.List.{List, [], _∷_, _++_}
+use lib.Dec.{leb}
+use lib.ListN.{length}
+use Rattle.rapidhash.specs.Choice.{pick}
+use Rattle.rapidhash.specs.Hash.{chunks, hashOf}
+use Rattle.stream.specs.State.{lanes, width, most, Said, said, Found, found, writeOf, finishOf, resetOf}
+use Rattle.stream.specs.declared.rapid_stream_hasher.Settings.{Settings}
+use Rattle.stream.specs.declared.rapid_stream_hasher.RapidStreamHasher.{RapidStreamHasher}
+use Rattle.stream.specs.declared.rapid_stream_hasher.Outcome.the-variants.{Took, TooLong}
+use Rattle.stream.specs.declared.rapid_stream_hasher.Finished.the-variants.{Hash}
+
+-- a call
+pub data Call : Type 0 where
+  write : List ℕ → Call
+  finish : Call
+  reset : Call
+
+-- what a call answers besides the state
+pub data Reply : Type 0 where
+  wrote : Said → Reply
+  finished : Found → Reply
+  didReset : Reply
+
+-- the replies of calls on a state, one after another
+unfoldable pub onStates : RapidStreamHasher → List Call → List Reply
+onStates h [] = []
+onStates h (write s ∷ cs) = wrote (writeOf h s .says) ∷ onStates (writeOf h s .state) cs
+onStates h (finish ∷ cs) = finished (finishOf h) ∷ onStates h cs
+onStates h (reset ∷ cs) = didReset ∷ onStates (resetOf h) cs
+
+-- whether a list of bytes may grow by n
+abbrev pub fits : List ℕ → ℕ → Bool
+fits bytes n = leb (length bytes + n) most
+
+-- the replies of calls on a plain list of accepted bytes: a write adds its bytes, or says how many there is room for; finish is the
+-- whole-message hash and the number of chunks it mixes, and changes nothing; reset empties the list
+unfoldable pub onList : Settings → List ℕ → List Call → List Reply
+onList o bytes [] = []
+onList o bytes (write s ∷ cs) =
+    pick (fits bytes (length s)) (wrote (said Took) ∷ onList o (bytes ++ s) cs) (wrote (said (TooLong (most - length bytes))) ∷ onList o bytes cs)
+onList o bytes (finish ∷ cs) =
+    finished (found (Hash (hashOf lanes (o .avalanche) (o .protected) (o .secrets) bytes) (chunks width (length bytes)))) ∷ onList o bytes cs
+onList o bytes (reset ∷ cs) = didReset ∷ onList o [] cs
