@@ -53,12 +53,13 @@ module _ (h : RapidStreamHasher) (t : Bool) (e : t ≡ sizedOf h) where
       go true b f = rw f (sym (simp no-choice))
       go false b f = refl
 
-  module _ (k : not t ≡ false) (z : Bool) (f : (h .waiting ≤ width → z ≡ allAre 0 (drop (16 + h .waiting) (h .buffer)))) where
+  -- what a sized state has waiting
+  pub sized-waits : not t ≡ false → h .waiting ≤ width
+  sized-waits k = sized-is h (sym e ∙ not-false t k) .0
+
+  module _ (k : not t ≡ false) (z : Bool) (clear : z ≡ allAre 0 (drop (16 + h .waiting) (h .buffer))) where
     sized : (h .waiting ≤ width) × (sofar h ≤ most)
     sized = sized-is h (sym e ∙ not-false t k)
-
-    clear : z ≡ allAre 0 (drop (16 + h .waiting) (h .buffer))
-    clear = f (sized .0)
 
     -- text lingers in the buffer
     pub unsound-text : not z ≡ true → false ≡ sound h

@@ -1,7 +1,11 @@
 pub mod After
+pub mod Answers
 pub mod Buffer
+pub mod ChunkEnd
 pub mod Clauses
+pub mod Demand1
 pub mod Demand3
+pub mod Ending
 pub mod Feed
 pub mod Good
 pub mod Hold
@@ -10,6 +14,3 @@ pub mod Slide
 pub mod Sound
 pub mod Whole
 pub mod Writes
-pub mod ChunkEnd
-pub mod Answers
-pub mod Ending

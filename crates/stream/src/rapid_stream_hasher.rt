@@ -171,11 +171,9 @@ fn is_sized(count: u64, waiting: usize) -> bool
 
 // Whether nothing stands behind the bytes that wait.
 fn is_clear_after(buffer: [u8; 128], waiting: usize) -> bool
-    ensures { λ r. ⌜ (waiting ≤ width → r ≡ allAre 0 (drop (16 + waiting) buffer)) ⌝ }
+    requires { ⌜ waiting ≤ width ⌝ }
+    ensures { λ r. ⌜ r ≡ allAre 0 (drop (16 + waiting) buffer) ⌝ }
 {
-    if 112 < waiting {
-        return false;
-    }
     let at = 16 + waiting;
     all_zero(&buffer[at..])
 }

@@ -1,5 +1,5 @@
 -- Clause after clause: each `return` stands where the tests before it held. Assumes nothing.
-use Rattle.stream.proofs.Clauses.{unsound-size, unsound-text, sound-later, unsound-lanes, sound-first}
+use Rattle.stream.proofs.Clauses.{unsound-size, sized-waits, unsound-text, sound-later, unsound-lanes, sound-first}
 use borrow.Author.Needs.{needs}
 use Rattle.stream.proofs.rapid_stream_hasher.is_sound.Statement.{statement}
 use Rattle.stream.proofs.rapid_stream_hasher.is_sound.Tie as tie
@@ -25,7 +25,7 @@ is-sound-spec =
     (tie.spec
     (λ c κs. search needs)
     returns
-    (λ c κs. search needs)
+    (λ c κs. search sized-waits)
     returns-2
     returns-3
     (λ c κs. search needs)

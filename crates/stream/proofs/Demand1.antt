@@ -1,0 +1,65 @@
+-- Demand 1 for the stream: no contract leaves a choice. Two answers that one contract allows for the same state and bytes are equal.
+-- Assumes nothing.
+use Prim.Native.Nat.{ℕ}
+use mathlib.Core.Path.{_≡_, refl, _∙_, ap}
+use native.Mathlib.Omega.{arith}
+use Rattle.rapidhash.proofs.Demand1.{OneAnswer, one}
+use Rattle.stream.specs.State.{Said, said, Answer, answered, Found, found}
+use Rattle.stream.specs.declared.rapid_stream_hasher.RapidStreamHasher.{RapidStreamHasher}
+use Rattle.stream.specs.declared.rapid_stream_hasher.Outcome.{Outcome}
+use Rattle.stream.specs.declared.rapid_stream_hasher.Outcome.the-variants.{Took, NotSound, TooLong}
+use Rattle.stream.specs.declared.rapid_stream_hasher.Written.{Written}
+use Rattle.stream.specs.declared.rapid_stream_hasher.Finished.{Finished}
+use Rattle.stream.specs.declared.rapid_stream_hasher.Finished.the-variants.{Hash, NotSound as Unsound}
+use Rattle.stream.proofs.rapid_stream_hasher.RapidStreamHasher.new.Reads as new
+use Rattle.stream.proofs.rapid_stream_hasher.RapidStreamHasher.write.Reads as write
+use Rattle.stream.proofs.rapid_stream_hasher.RapidStreamHasher.finish.Reads as finish
+use Rattle.stream.proofs.rapid_stream_hasher.RapidStreamHasher.reset.Reads as reset
+
+-- two numbers that differ are not said of one outcome
+numbers : {A : Type 0} (m n : ℕ) → (m ≡ n → ⊥) → m ≡ n → A
+numbers m n h e = absurd (h e)
+
+-- the number and the room tell the outcomes apart
+pub told-apart : (x y : Outcome) → said x ≡ said y → x ≡ y
+told-apart Took Took e = refl
+told-apart Took NotSound e = numbers 0 1 (λ k. omega arith) (ap (λ (s : Said). s .number) e)
+told-apart Took (TooLong r) e = numbers 0 2 (λ k. omega arith) (ap (λ (s : Said). s .number) e)
+told-apart NotSound Took e = numbers 1 0 (λ k. omega arith) (ap (λ (s : Said). s .number) e)
+told-apart NotSound NotSound e = refl
+told-apart NotSound (TooLong r) e = numbers 1 2 (λ k. omega arith) (ap (λ (s : Said). s .number) e)
+told-apart (TooLong r) Took e = numbers 2 0 (λ k. omega arith) (ap (λ (s : Said). s .number) e)
+told-apart (TooLong r) NotSound e = numbers 2 1 (λ k. omega arith) (ap (λ (s : Said). s .number) e)
+told-apart (TooLong r) (TooLong q) e = ap TooLong (ap (λ (s : Said). s .room) e)
+
+-- and the number, the hash and the count what finish finds
+pub found-apart : (x y : Finished) → found x ≡ found y → x ≡ y
+found-apart (Hash v k) (Hash w l) e =
+    let a : v ≡ w = ap (λ (s : Found). s .hash) e in
+    let b : k ≡ l = ap (λ (s : Found). s .count) e in
+    rw (a, b)
+found-apart (Hash v k) Unsound e = numbers 0 1 (λ k. omega arith) (ap (λ (s : Found). s .number) e)
+found-apart Unsound (Hash w l) e = numbers 1 0 (λ k. omega arith) (ap (λ (s : Found). s .number) e)
+found-apart Unsound Unsound e = refl
+
+-- the state and the outcome are all of a write's answer
+pub written-apart : (x y : Written) → answered x ≡ answered y → x ≡ y
+written-apart x y e =
+    let a : x .state ≡ y .state = ap (λ (s : Answer). s .state) e in
+    let b : x .outcome ≡ y .outcome = told-apart (x .outcome) (y .outcome) (ap (λ (s : Answer). s .says) e) in
+    ap (λ (s : RapidStreamHasher). made s (x .outcome)) a ∙ ap (λ (o : Outcome). made (y .state) o) b
+  where
+    made : RapidStreamHasher → Outcome → Written
+    made s o = record { state = s; outcome = o }
+
+pub new-one : OneAnswer new.Post
+new-one κ a r₁ r₂ s p q = one p q
+
+pub write-one : OneAnswer write.Post
+write-one κ a r₁ r₂ s p q = written-apart r₁ r₂ (one p q)
+
+pub finish-one : OneAnswer finish.Post
+finish-one κ a r₁ r₂ s p q = found-apart r₁ r₂ (one p q)
+
+pub reset-one : OneAnswer reset.Post
+reset-one κ a r₁ r₂ s p q = one p q
