@@ -11,7 +11,7 @@ use borrow.Author.Tests.{le-leb, lt-leb}
 use Rattle.rapidhash.specs.Hash.{chunks, hashOf}
 use Rattle.stream.specs.Stream.{opened, feed}
 use Rattle.stream.specs.State.{lanes, width, most, sofar, view, hold, sound, openingOf, said, found, Answer, taken, writeOf, finishOf, resetOf}
-use Rattle.stream.specs.Calls.{Call, write, finish, reset, wrote, onStates, onList}
+use Rattle.stream.specs.Calls.{Call, write, finish, reset, wrote, Ran, first, onStates, Listed, onList}
 use Rattle.stream.specs.declared.rapid_stream_hasher.Settings.{Settings}
 use Rattle.stream.specs.declared.rapid_stream_hasher.RapidStreamHasher.{RapidStreamHasher}
 use Rattle.stream.specs.declared.rapid_stream_hasher.Outcome.the-variants.{Took, NotSound, TooLong}
@@ -91,23 +91,27 @@ written-sound h s size ok = go (decLe (sofar h + length s) most)
         rw (taken-when h s ok l) (sound-hold o (fed o (view h) s) (good-fed o (view h) s g) (omega arith))
     go (no n) = rw (refused-too-long h s ok (omega arith)) ok
 
--- the replies from a write on are what it says and those from its state on
+-- what comes from a write on is what it says, and what comes from its state on
 after-write : (h : RapidStreamHasher) (s : List ℕ) (cs : List Call) {a : Answer} → writeOf h s ≡ a
-    → onStates h (write s ∷ cs) ≡ wrote (a .says) ∷ onStates (a .state) cs
+    → onStates h (write s ∷ cs) ≡ first (wrote (a .says)) (onStates (a .state) cs)
 unfolding onStates
 after-write h s cs e = rw e
 
--- if the later calls answer alike, so do a write and the later calls
+-- the run on states that a run on the list stands for: the same replies, and the state of the bytes
+abbrev pub stated : Settings → Listed → Ran
+stated o l = record { replies = l .replies; state = after o (l .bytes) }
+
+-- if the later calls go alike, so do a write and the later calls
 alike-write : (o : Settings) (bytes s : List ℕ) (cs : List Call) → length bytes ≤ most
-    → ((b : List ℕ) → length b ≤ most → onStates (after o b) cs ≡ onList o b cs)
-    → onStates (after o bytes) (write s ∷ cs) ≡ onList o bytes (write s ∷ cs)
+    → ((b : List ℕ) → length b ≤ most → onStates (after o b) cs ≡ stated o (onList o b cs))
+    → onStates (after o bytes) (write s ∷ cs) ≡ stated o (onList o bytes (write s ∷ cs))
 unfolding onList
 alike-write o bytes s cs m later = go (decLe (length bytes + length s) most)
   where
     h : RapidStreamHasher
     h = after o bytes
 
-    go : Dec (length bytes + length s ≤ most) → onStates h (write s ∷ cs) ≡ onList o bytes (write s ∷ cs)
+    go : Dec (length bytes + length s ≤ most) → onStates h (write s ∷ cs) ≡ stated o (onList o bytes (write s ∷ cs))
     go (yes l) =
         after-write h s cs (taken-when h s (sound-after o bytes m) (rw (sofar-after o bytes) l))
         ∙ rw (taken-after o bytes s, later (bytes ++ s) (rw length-append l), le-leb (length bytes + length s) most l)
@@ -117,7 +121,7 @@ alike-write o bytes s cs m later = go (decLe (length bytes + length s) most)
         ∙ rw (sofar-after o bytes, later bytes m, lt-leb (length bytes + length s) most l)
 
 -- the general statement: from the state after any bytes, as from those bytes as a list
-pub from-after : (o : Settings) (bytes : List ℕ) (cs : List Call) → length bytes ≤ most → onStates (after o bytes) cs ≡ onList o bytes cs
+pub from-after : (o : Settings) (bytes : List ℕ) (cs : List Call) → length bytes ≤ most → onStates (after o bytes) cs ≡ stated o (onList o bytes cs)
 unfolding onStates onList
 from-after o bytes [] m = refl
 from-after o bytes (write s ∷ cs) m = alike-write o bytes s cs m (λ b l. from-after o b cs l)
@@ -125,6 +129,10 @@ from-after o bytes (finish ∷ cs) m = rw (finish-is-whole o bytes m, from-after
 from-after o bytes (reset ∷ cs) m = rw (reset-after o bytes, from-after o [] cs (omega arith))
 
 -- (e) For every sequence of writes, finishes and resets from any opening, the states answer at each step as a plain list of the accepted bytes
--- does, refused writes included. A finish changes nothing: the calls after it answer as if it had not been.
-pub as-a-list : (o : Settings) (cs : List Call) → onStates (openingOf o) cs ≡ onList o [] cs
-as-a-list o cs = rw (← after-none o) (from-after o [] cs (omega arith))
+-- does, refused writes included, and the last state is the opening with those bytes written at once. A finish changes nothing: the calls after
+-- it go as if it had not been.
+pub as-a-list : (o : Settings) (cs : List Call)
+    → onStates (openingOf o) cs ≡ record { replies = onList o [] cs .replies; state = taken (openingOf o) (onList o [] cs .bytes) }
+as-a-list o cs =
+    let last : taken (after o []) (onList o [] cs .bytes) ≡ after o (onList o [] cs .bytes) = taken-after o [] (onList o [] cs .bytes) in
+    rw (← after-none o) (from-after o [] cs (omega arith) ∙ rw last)

@@ -24,23 +24,45 @@ pub data Reply : Type 0 where
   finished : Found → Reply
   didReset : Reply
 
--- the replies of calls on a state, one after another
-unfoldable pub onStates : RapidStreamHasher → List Call → List Reply
-onStates h [] = []
-onStates h (write s ∷ cs) = wrote (writeOf h s .says) ∷ onStates (writeOf h s .state) cs
-onStates h (finish ∷ cs) = finished (finishOf h) ∷ onStates h cs
-onStates h (reset ∷ cs) = didReset ∷ onStates (resetOf h) cs
+-- what calls on states come to: the replies one after another, and the last state
+pub record Ran : Type 0 where
+  pub replies : List Reply
+  pub state : RapidStreamHasher
+
+-- a reply before others
+abbrev pub first : Reply → Ran → Ran
+first r l = record { replies = r ∷ l .replies; state = l .state }
+
+-- calls on a state
+unfoldable pub onStates : RapidStreamHasher → List Call → Ran
+onStates h [] = record { replies = []; state = h }
+onStates h (write s ∷ cs) = first (wrote (writeOf h s .says)) (onStates (writeOf h s .state) cs)
+onStates h (finish ∷ cs) = first (finished (finishOf h)) (onStates h cs)
+onStates h (reset ∷ cs) = first didReset (onStates (resetOf h) cs)
+
+-- what calls on a plain list of accepted bytes come to: the replies, and the bytes accepted since the last reset
+pub record Listed : Type 0 where
+  pub replies : List Reply
+  pub bytes : List ℕ
+
+-- a reply before others
+abbrev pub before : Reply → Listed → Listed
+before r l = record { replies = r ∷ l .replies; bytes = l .bytes }
 
 -- whether a list of bytes may grow by n
 abbrev pub fits : List ℕ → ℕ → Bool
 fits bytes n = leb (length bytes + n) most
 
--- the replies of calls on a plain list of accepted bytes: a write adds its bytes, or says how many there is room for; finish is the
--- whole-message hash and the number of chunks it mixes, and changes nothing; reset empties the list
-unfoldable pub onList : Settings → List ℕ → List Call → List Reply
-onList o bytes [] = []
+-- calls on the list: a write adds its bytes, or says how many there is room for; finish is the whole-message hash and the number of chunks
+-- that it mixes, and changes nothing; reset empties the list
+unfoldable pub onList : Settings → List ℕ → List Call → Listed
+onList o bytes [] = record { replies = []; bytes = bytes }
 onList o bytes (write s ∷ cs) =
-    pick (fits bytes (length s)) (wrote (said Took) ∷ onList o (bytes ++ s) cs) (wrote (said (TooLong (most - length bytes))) ∷ onList o bytes cs)
+    pick (fits bytes (length s))
+    (before (wrote (said Took)) (onList o (bytes ++ s) cs))
+    (before (wrote (said (TooLong (most - length bytes)))) (onList o bytes cs))
 onList o bytes (finish ∷ cs) =
-    finished (found (Hash (hashOf lanes (o .avalanche) (o .protected) (o .secrets) bytes) (chunks width (length bytes)))) ∷ onList o bytes cs
-onList o bytes (reset ∷ cs) = didReset ∷ onList o [] cs
+    before
+    (finished (found (Hash (hashOf lanes (o .avalanche) (o .protected) (o .secrets) bytes) (chunks width (length bytes)))))
+    (onList o bytes cs)
+onList o bytes (reset ∷ cs) = before didReset (onList o [] cs)
