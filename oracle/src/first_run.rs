@@ -21,8 +21,8 @@ pub fn print(mut output: impl Write) -> Result<()> {
     Ok(())
 }
 
-/// The formula is the replaying program's too: a change here makes every line of the grid another.
-fn message(length: usize) -> Vec<u8> {
+/// The formula is the replaying programs' too: a change here makes every line that they replay another.
+pub fn message(length: usize) -> Vec<u8> {
     (0..length).map(|i| ((i * 197 + (i / 3) * 59 + (i / 7) * 113 + length * 101 + 7) % 256) as u8).collect()
 }
 

@@ -1,7 +1,8 @@
-//! rapidhash's own Rust as the oracle: it answers requests, checks stored answers, and prints the grid that
-//! a program of this repository replays. README.md says how to run it.
+//! rapidhash's own Rust as the oracle: it answers requests, checks stored answers, and prints the grid and
+//! the cuts that programs of this repository replay. README.md says how to run it.
 
 mod check;
+mod cuts;
 mod first_run;
 mod hashes;
 mod inner;
@@ -16,7 +17,7 @@ include!(concat!(env!("OUT_DIR"), "/rapidhash.rs"));
 use std::io::{stdin, stdout, ErrorKind, Result};
 use std::process::ExitCode;
 
-const USAGE: &str = "usage: oracle < REQUESTS | oracle check FILE.. | oracle first-run";
+const USAGE: &str = "usage: oracle < REQUESTS | oracle check FILE.. | oracle first-run | oracle cuts";
 
 fn main() -> ExitCode {
     let arguments: Vec<String> = std::env::args().skip(1).collect();
@@ -39,6 +40,7 @@ fn run(arguments: &[String]) -> Result<ExitCode> {
     match (mode.as_str(), rest) {
         ("check", [_, ..]) => check::files(rest, stdout().lock()),
         ("first-run", []) => first_run::print(stdout().lock()).map(|()| ExitCode::SUCCESS),
+        ("cuts", []) => cuts::print(stdout().lock()).map(|()| ExitCode::SUCCESS),
         _ => {
             eprintln!("{USAGE}");
             Ok(ExitCode::from(2))

@@ -1,5 +1,5 @@
 //! A stream's calls, run by the Rust's stream hasher. What the hasher does not show (the chunk count and the
-//! state) is worked out from the bytes accepted since the last reset, by document 01's rules for the stream.
+//! state) is worked out from the bytes accepted since the last reset, by the rules of crates/stream/specs.
 
 use crate::util::mix::rapid_mix;
 use crate::util::read::read_u64;
@@ -74,7 +74,7 @@ fn run<const AVALANCHE: bool, const PROTECTED: bool>(opening: &Opening, calls: &
 }
 
 /// A chunk is mixed only when at least one byte follows it.
-fn chunks(accepted: &[u8]) -> usize {
+pub fn chunks(accepted: &[u8]) -> usize {
     accepted.len().saturating_sub(1) / CHUNK
 }
 

@@ -1,0 +1,27 @@
+-- The loop goes on to the length in steps of at least 1, and a turn adds at most 1. Assumes nothing.
+use Prim.Native.Nat.{_≤_, _+_, _-_}
+use lib.ListN.{length}
+use borrow.Author.Needs.{needs}
+use Rattle.cuts.proofs.two_parts.Statement.{statement}
+use Rattle.cuts.proofs.two_parts.Tie as tie
+
+abbrev Inv-loop : tie.InvT-loop
+Inv-loop start bytes wanted step same₀ i₀ same i = (i ≤ length bytes + step) × (same ≤ i)
+
+abbrev μ-loop : tie.MeasureT-loop
+μ-loop start bytes wanted step same₀ i₀ same i = length bytes + step - i
+
+pub two-parts-spec : {M : Type 1} → statement M
+two-parts-spec =
+    tie.close
+    (tie.spec
+    Inv-loop
+    μ-loop
+    (λ c. search needs)
+    (λ c κs. search needs)
+    (λ c κs. search needs)
+    (λ c. search needs)
+    (λ c. search needs)
+    (λ c. search needs)
+    (λ c. search needs)
+    (λ c. search needs))
