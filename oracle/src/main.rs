@@ -1,8 +1,9 @@
-//! rapidhash's own Rust as the oracle: it answers requests, checks stored answers, and prints the grid and
-//! the cuts that programs of this repository replay. README.md says how to run it.
+//! rapidhash's own Rust as the oracle: it answers requests, checks stored answers, and prints the grid,
+//! the cuts and the edges that programs of this repository replay. README.md says how to run it.
 
 mod check;
 mod cuts;
+mod edges;
 mod first_run;
 mod hashes;
 mod inner;
@@ -17,7 +18,7 @@ include!(concat!(env!("OUT_DIR"), "/rapidhash.rs"));
 use std::io::{stdin, stdout, ErrorKind, Result};
 use std::process::ExitCode;
 
-const USAGE: &str = "usage: oracle < REQUESTS | oracle check FILE.. | oracle first-run | oracle cuts";
+const USAGE: &str = "usage: oracle < REQUESTS | oracle check FILE.. | oracle first-run | oracle cuts | oracle edges";
 
 fn main() -> ExitCode {
     let arguments: Vec<String> = std::env::args().skip(1).collect();
@@ -40,6 +41,7 @@ fn run(arguments: &[String]) -> Result<ExitCode> {
     match (mode.as_str(), rest) {
         ("check", [_, ..]) => check::files(rest, stdout().lock()),
         ("first-run", []) => first_run::print(stdout().lock()).map(|()| ExitCode::SUCCESS),
+        ("edges", []) => edges::print(stdout().lock()).map(|()| ExitCode::SUCCESS),
         ("cuts", []) => cuts::print(stdout().lock()).map(|()| ExitCode::SUCCESS),
         _ => {
             eprintln!("{USAGE}");

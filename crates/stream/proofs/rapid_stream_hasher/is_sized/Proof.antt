@@ -6,7 +6,7 @@ use Rattle.stream.proofs.rapid_stream_hasher.is_sized.Statement.{statem
 use Rattle.stream.proofs.rapid_stream_hasher.is_sized.Tie as tie
 
 returns : tie.Need-returns
-returns c = search sized-wide
+returns c = sized-wide (c .before .args .count) (c .before .args .waiting) (omega arith)
 
 returns-2 : tie.Need-returns-2
 returns-2 c = sized-many (c .before .before .args .count) (c .before .before .args .waiting) (omega arith)
