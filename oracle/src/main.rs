@@ -18,7 +18,8 @@ include!(concat!(env!("OUT_DIR"), "/rapidhash.rs"));
 use std::io::{stdin, stdout, ErrorKind, Result};
 use std::process::ExitCode;
 
-const USAGE: &str = "usage: oracle < REQUESTS | oracle check FILE.. | oracle first-run | oracle cuts | oracle edges";
+const USAGE: &str =
+    "usage: oracle < REQUESTS | oracle check FILE.. | oracle first-run | oracle cuts | oracle edges";
 
 fn main() -> ExitCode {
     let arguments: Vec<String> = std::env::args().skip(1).collect();

@@ -14,7 +14,7 @@ use Rattle.stream.specs.declared.rapid_stream_hasher.Written.{Written}
 use Rattle.stream.specs.declared.rapid_stream_hasher.Finished.{Finished}
 use Rattle.stream.specs.declared.rapid_stream_hasher.Finished.the-variants.{Hash, NotSound as Unsound}
 
--- the stream has seven lanes so far
+-- the stream has the lanes of the full hash
 abbrev pub lanes : ℕ
 lanes = 7
 
@@ -78,6 +78,7 @@ pub record Answer : Type 0 where
   pub state : RapidStreamHasher
   pub says : Said
 
+-- what the struct that a write returns answers
 abbrev pub answered : Written → Answer
 answered w = record { state = w .state; says = said (w .outcome) }
 
