@@ -1,26 +1,26 @@
 -- The state after bytes from an opening: what it holds, how many bytes it has gone by, and that it is sound. Assumes nothing.
-use Prim.Native.Nat.{ℕ, _+_, _≤_}
+use Prim.Native.Nat.{ℕ, _+_, _≤_, _<_}
 use mathlib.Core.Path.{_≡_, refl, _∙_, sym}
 use mathlib.Core.Bool.{true}
 use mathlib.Core.List.{List, [], _++_}
 use native.Mathlib.Omega.{arith}
 use lib.ListN.{length}
 use Rattle.stream.specs.Stream.{Stream, opened, feed}
-use Rattle.stream.specs.State.{lanes, most, sofar, hold, sound, openingOf, taken, resetOf}
+use Rattle.stream.specs.State.{most, sofar, hold, sound, openingOf, taken, resetOf}
 use Rattle.stream.specs.declared.rapid_stream_hasher.Settings.{Settings}
 use Rattle.stream.specs.declared.rapid_stream_hasher.RapidStreamHasher.{RapidStreamHasher}
 use Rattle.stream.proofs.Feed.{feed-append}
 use Rattle.stream.proofs.Good.{Good, total, good-opened, total-opened, good-feed, total-feed}
 use Rattle.stream.proofs.Hold.{view-hold, sound-hold}
 
-module _ (o : Settings) where
+module _ (L : ℕ) (o : Settings) where
   -- bytes come to a stream under an opening's settings
   abbrev pub fed : Stream → List ℕ → Stream
-  fed t s = feed lanes (o .protected) (o .secrets .secrets) t s
+  fed t s = feed L (o .protected) (o .secrets .secrets) t s
 
   -- a stream under them
   abbrev pub GoodFor : Stream → Type 0
-  GoodFor t = Good lanes (o .secrets .seed) t
+  GoodFor t = Good L (o .secrets .seed) t
 
   -- the stream after bytes from the opening
   abbrev pub streamOf : List ℕ → Stream
@@ -32,43 +32,44 @@ module _ (o : Settings) where
 
   -- where the bytes are cut does not matter
   pub fed-append : (t : Stream) (xs ys : List ℕ) → fed t (xs ++ ys) ≡ fed (fed t xs) ys
-  fed-append = feed-append lanes (o .protected) (o .secrets .secrets)
-
-  -- bytes keep what every stream from an opening has
-  pub good-fed : (t : Stream) (s : List ℕ) → GoodFor t → GoodFor (fed t s)
-  good-fed = good-feed lanes (o .protected) (o .secrets .secrets) (omega arith) (o .secrets .seed)
-
-  -- and are as many more as they are
-  pub total-fed : (t : Stream) (s : List ℕ) → GoodFor t → total lanes (fed t s) ≡ total lanes t + length s
-  total-fed = total-feed lanes (o .protected) (o .secrets .secrets) (omega arith) (o .secrets .seed)
+  fed-append = feed-append L (o .protected) (o .secrets .secrets)
 
   -- bytes that a state takes come to the stream that it was made to hold
-  pub taken-hold : (t : Stream) (s : List ℕ) → length (t .prev) ≡ 16 → taken (hold o t) s ≡ hold o (fed t s)
+  pub taken-hold : (t : Stream) (s : List ℕ) → length (t .prev) ≡ 16 → taken L (hold o t) s ≡ hold o (fed t s)
   unfolding taken hold
   taken-hold t s e = rw (view-hold o t e)
-
-  -- the stream after bytes is such as every one from an opening
-  pub good-after : (bytes : List ℕ) → GoodFor (streamOf bytes)
-  good-after bytes = good-fed (opened (o .secrets .seed)) bytes (good-opened lanes (o .secrets .seed))
 
   -- after no bytes the state is the opening
   pub after-none : after [] ≡ openingOf o
   unfolding after openingOf feed
   after-none = refl
 
-  -- it has gone by as many bytes as there were
-  pub sofar-after : (bytes : List ℕ) → sofar (after bytes) ≡ length bytes
-  unfolding after hold
-  sofar-after bytes =
-      total-fed (opened (o .secrets .seed)) bytes (good-opened lanes (o .secrets .seed))
-      ∙ rw (total-opened lanes (o .secrets .seed)) (omega arith)
-
-  -- it is sound while it is not too long
-  pub sound-after : (bytes : List ℕ) → length bytes ≤ most → sound (after bytes) ≡ true
-  unfolding after hold
-  sound-after bytes l = sound-hold o (streamOf bytes) (good-after bytes) (rw (sofar-after bytes) l)
-
   -- reset leads back to no bytes
   pub reset-after : (bytes : List ℕ) → resetOf (after bytes) ≡ after []
   unfolding resetOf after hold
   reset-after bytes = sym after-none
+
+  module _ (pos : 0 < L) where
+    -- bytes keep what every stream from an opening has
+    pub good-fed : (t : Stream) (s : List ℕ) → GoodFor t → GoodFor (fed t s)
+    good-fed = good-feed L (o .protected) (o .secrets .secrets) pos (o .secrets .seed)
+
+    -- and are as many more as they are
+    pub total-fed : (t : Stream) (s : List ℕ) → GoodFor t → total L (fed t s) ≡ total L t + length s
+    total-fed = total-feed L (o .protected) (o .secrets .secrets) pos (o .secrets .seed)
+
+    -- the stream after bytes is such as every one from an opening
+    pub good-after : (bytes : List ℕ) → GoodFor (streamOf bytes)
+    good-after bytes = good-fed (opened (o .secrets .seed)) bytes (good-opened L (o .secrets .seed))
+
+    -- it has gone by as many bytes as there were
+    pub sofar-after : (bytes : List ℕ) → sofar L (after bytes) ≡ length bytes
+    unfolding after hold
+    sofar-after bytes =
+        total-fed (opened (o .secrets .seed)) bytes (good-opened L (o .secrets .seed))
+        ∙ rw (total-opened L (o .secrets .seed)) (omega arith)
+
+    -- it is sound while it is not too long
+    pub sound-after : (bytes : List ℕ) → length bytes ≤ most → sound L (after bytes) ≡ true
+    unfolding after hold
+    sound-after bytes l = sound-hold o (streamOf bytes) L (good-after bytes) (rw (sofar-after bytes) l)

@@ -10,13 +10,14 @@ use Rattle.rapidhash.specs.Hash.{chunks, lanesAfter, mixedOf}
 use Rattle.rapidhash.specs.declared.v3.lanes.Mixed.{Mixed}
 use Rattle.rapidhash.proofs.Chunks.{chunks-within}
 use Rattle.stream.specs.Stream.{Stream, slide, feed}
-use Rattle.stream.specs.State.{lanes, width, hold}
+use Rattle.stream.specs.State.{hold}
 use Rattle.stream.specs.declared.rapid_stream_hasher.Settings.{Settings}
 use Rattle.stream.specs.declared.rapid_stream_hasher.RapidStreamHasher.{RapidStreamHasher}
 use Rattle.stream.proofs.Buffer.{drop-zeros}
 use Rattle.stream.proofs.Clauses.{to-end}
 use Rattle.stream.proofs.Feed.{feed-chunks, chunks-left}
 use Rattle.stream.proofs.Slide.{slide-length}
+use Rattle.stream.proofs.Seven.{lanes, width}
 
 -- a buffer of zeros with 16 bytes and then some more
 two-parts : (a c e b : List ℕ) → length a ≡ 16 → e ≡ take 0 (replicate 128 0) ++ a ++ drop (0 + length a) (replicate 128 0)

@@ -12,8 +12,9 @@ use borrow.Author.Tests.{le-leb, lt-leb, eq-eqb, ne-eqb, leb-true, not-true, not
 use Rattle.rapidhash.specs.Choice.{pick, every, allAre}
 use Rattle.rapidhash.proofs.Tests.{same-leb}
 use Rattle.stream.proofs.Sound.{both}
-use Rattle.stream.specs.State.{width, sofar, most, sound}
+use Rattle.stream.specs.State.{sofar, most, sound}
 use Rattle.stream.specs.declared.rapid_stream_hasher.RapidStreamHasher.{RapidStreamHasher}
+use Rattle.stream.proofs.Seven.{lanes, width}
 
 -- nothing is chosen between false and false
 no-choice : (t : Bool) → pick t false false ≡ false
@@ -34,16 +35,16 @@ abbrev pub sizedOf : RapidStreamHasher → Bool
 sizedOf h = pick (leb (h .waiting) width) (leb (width * h .count + h .waiting) most) false
 
 -- what a sized state keeps to
-pub sized-is : (h : RapidStreamHasher) → sizedOf h ≡ true → (h .waiting ≤ width) × (sofar h ≤ most)
+pub sized-is : (h : RapidStreamHasher) → sizedOf h ≡ true → (h .waiting ≤ width) × (sofar lanes h ≤ most)
 sized-is h e =
-    let b = both (leb (h .waiting) width) (leb (sofar h) most) e in
-    (leb-true (h .waiting) width (b .0), leb-true (sofar h) most (b .1))
+    let b = both (leb (h .waiting) width) (leb (sofar lanes h) most) e in
+    (leb-true (h .waiting) width (b .0), leb-true (sofar lanes h) most (b .1))
 
 module _ (h : RapidStreamHasher) (t : Bool) (e : t ≡ sizedOf h) where
-  -- a state that is not sized is not sound
-  pub unsound-size : not t ≡ true → false ≡ sound h
+  -- a state that is not sized is not sound lanes
+  pub unsound-size : not t ≡ true → false ≡ sound lanes h
   unfolding sound
-  unsound-size k = go (leb (h .waiting) width) (leb (sofar h) most) (sym e ∙ not-true t k)
+  unsound-size k = go (leb (h .waiting) width) (leb (sofar lanes h) most) (sym e ∙ not-true t k)
     where
       rest : Bool → Bool → Bool
       rest a b = every (a ∷ pick (eqb (h .count) 0) (allAre (h .settings .secrets .seed) (h .lanes)) true ∷ pick (eqb (h .count) 0) (allAre 0 (take 16 (h .buffer))) true
@@ -58,11 +59,11 @@ module _ (h : RapidStreamHasher) (t : Bool) (e : t ≡ sizedOf h) where
   sized-waits k = sized-is h (sym e ∙ not-false t k) .0
 
   module _ (k : not t ≡ false) (z : Bool) (clear : z ≡ allAre 0 (drop (16 + h .waiting) (h .buffer))) where
-    sized : (h .waiting ≤ width) × (sofar h ≤ most)
+    sized : (h .waiting ≤ width) × (sofar lanes h ≤ most)
     sized = sized-is h (sym e ∙ not-false t k)
 
     -- text lingers in the buffer
-    pub unsound-text : not z ≡ true → false ≡ sound h
+    pub unsound-text : not z ≡ true → false ≡ sound lanes h
     unfolding sound
     unsound-text g = rw (sym clear ∙ not-true z g) (sym (simp no-choice))
 
@@ -71,23 +72,23 @@ module _ (h : RapidStreamHasher) (t : Bool) (e : t ≡ sizedOf h) where
       zeros = sym clear ∙ not-false z g
 
       -- after the first chunk at least one byte waits
-      pub sound-later : 0 < h .count → leb 1 (h .waiting) ≡ sound h
+      pub sound-later : 0 < h .count → leb 1 (h .waiting) ≡ sound lanes h
       unfolding sound
       sound-later p =
-          rw (le-leb (h .waiting) width (sized .0), ne-eqb (h .count) 0 (λ q. omega arith), zeros, le-leb (sofar h) most (sized .1)) (itself (leb 1 (h .waiting)))
+          rw (le-leb (h .waiting) width (sized .0), ne-eqb (h .count) 0 (λ q. omega arith), zeros, le-leb (sofar lanes h) most (sized .1)) (itself (leb 1 (h .waiting)))
 
       module _ (p : h .count ≤ 0) (l : Bool) (el : l ≡ allAre (h .settings .secrets .seed) (h .lanes)) where
         -- before it the lanes are the seed
-        pub unsound-lanes : not l ≡ true → false ≡ sound h
+        pub unsound-lanes : not l ≡ true → false ≡ sound lanes h
         unfolding sound
         unsound-lanes q = rw (le-leb (h .waiting) width (sized .0), eq-eqb (h .count) 0 (omega arith), sym el ∙ not-true l q)
 
         -- and the first 16 bytes are zero
-        pub sound-first : not l ≡ false → {b : Bool} → b ≡ allAre 0 (take 16 (h .buffer)) → b ≡ sound h
+        pub sound-first : not l ≡ false → {b : Bool} → b ≡ allAre 0 (take 16 (h .buffer)) → b ≡ sound lanes h
         unfolding sound
         sound-first q eb =
             eb
-            ∙ rw (le-leb (h .waiting) width (sized .0), eq-eqb (h .count) 0 (omega arith), sym el ∙ not-false l q, zeros, le-leb (sofar h) most (sized .1))
+            ∙ rw (le-leb (h .waiting) width (sized .0), eq-eqb (h .count) 0 (omega arith), sym el ∙ not-false l q, zeros, le-leb (sofar lanes h) most (sized .1))
             (itself (allAre 0 (take 16 (h .buffer))))
 
 module _ (k m : ℕ) where

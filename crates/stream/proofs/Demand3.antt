@@ -1,6 +1,6 @@
 -- What a reader of the stream looks for (the scope's demand 3): cuts do not matter, finish is the whole-message hash, sound states stay sound,
 -- a refusal changes nothing, and any sequence of calls answers as on a plain list of the accepted bytes. Assumes nothing.
-use Prim.Native.Nat.{ℕ, _+_, _-_, _≤_, _<_}
+use Prim.Native.Nat.{ℕ, _+_, _-_, _*_, _≤_, _<_}
 use mathlib.Core.Path.{_≡_, refl, _∙_, ap, sym}
 use mathlib.Core.Bool.{true, false}
 use mathlib.Core.List.{List, [], _∷_, _++_}
@@ -10,7 +10,7 @@ use lib.ListN.{length, length-append}
 use borrow.Author.Tests.{le-leb, lt-leb}
 use Rattle.rapidhash.specs.Hash.{chunks, hashOf}
 use Rattle.stream.specs.Stream.{opened, feed}
-use Rattle.stream.specs.State.{lanes, width, most, sofar, view, hold, sound, openingOf, said, found, Answer, taken, writeOf, finishOf, resetOf}
+use Rattle.stream.specs.State.{most, sofar, view, hold, sound, openingOf, said, found, Answer, taken, writeOf, finishOf, resetOf}
 use Rattle.stream.specs.Calls.{Call, write, finish, reset, wrote, Ran, first, onStates, Listed, onList}
 use Rattle.stream.specs.declared.rapid_stream_hasher.Settings.{Settings}
 use Rattle.stream.specs.declared.rapid_stream_hasher.RapidStreamHasher.{RapidStreamHasher}
@@ -21,118 +21,119 @@ use Rattle.stream.proofs.Good.{total}
 use Rattle.stream.proofs.Hold.{view-hold, sound-hold, good-view, total-view, hold-view}
 use Rattle.stream.proofs.After.{fed, streamOf, after, fed-append, good-fed, total-fed, taken-hold, good-after, after-none, sofar-after, sound-after, reset-after}
 
--- (a) Where the bytes are cut does not matter: a sound state takes xs and then ys as it takes both at once. So the state depends only on the
--- bytes, the seed, the secrets and the flags.
-pub cuts : (h : RapidStreamHasher) (xs ys : List ℕ) → length (h .buffer) ≡ 128 → sound h ≡ true → taken (taken h xs) ys ≡ taken h (xs ++ ys)
-unfolding taken
-cuts h xs ys size ok =
-    let o = h .settings in
-    let g = good-fed o (view h) xs (good-view h size ok) in
-    taken-hold o (fed o (view h) xs) ys (g .sixteen) ∙ ap (hold o) (sym (fed-append o (view h) xs ys))
+module _ (L : ℕ) (pos : 0 < L) (few : L ≤ 7) where
+  -- (a) Where the bytes are cut does not matter: a sound L state takes xs and then ys as it takes both at once. So the state depends only on the
+  -- bytes, the seed, the secrets and the flags.
+  pub cuts : (h : RapidStreamHasher) (xs ys : List ℕ) → length (h .buffer) ≡ 128 → sound L h ≡ true → taken L (taken L h xs) ys ≡ taken L h (xs ++ ys)
+  unfolding taken
+  cuts h xs ys size ok =
+      let o = h .settings in
+      let g = good-fed L o pos (view h) xs (good-view L few h size ok) in
+      taken-hold L o (fed L o (view h) xs) ys (g .sixteen) ∙ ap (hold o) (sym (fed-append L o (view h) xs ys))
 
--- From an opening this needs nothing.
-pub taken-after : (o : Settings) (xs ys : List ℕ) → taken (after o xs) ys ≡ after o (xs ++ ys)
-unfolding after
-taken-after o xs ys =
-    taken-hold o (streamOf o xs) ys (good-after o xs .sixteen) ∙ ap (hold o) (sym (fed-append o (opened (o .secrets .seed)) xs ys))
+  -- From an opening this needs nothing.
+  pub taken-after : (o : Settings) (xs ys : List ℕ) → taken L (after L o xs) ys ≡ after L o (xs ++ ys)
+  unfolding after
+  taken-after o xs ys =
+      taken-hold L o (streamOf L o xs) ys (good-after L o pos xs .sixteen) ∙ ap (hold o) (sym (fed-append L o (opened (o .secrets .seed)) xs ys))
 
--- No bytes leave a sound state as it is.
-pub taken-none : (h : RapidStreamHasher) → length (h .buffer) ≡ 128 → sound h ≡ true → taken h [] ≡ h
-unfolding taken feed
-taken-none = hold-view
+  -- No bytes leave a sound L state as it is.
+  pub taken-none : (h : RapidStreamHasher) → length (h .buffer) ≡ 128 → sound L h ≡ true → taken L h [] ≡ h
+  unfolding taken feed
+  taken-none = hold-view L few
 
--- (b) Finish after any bytes that are not too many answers the hash of them as one message, and the number of chunks that this mixes.
-pub finish-is-whole : (o : Settings) (bytes : List ℕ) → length bytes ≤ most
-    → finishOf (after o bytes) ≡ found (Hash (hashOf lanes (o .avalanche) (o .protected) (o .secrets) bytes) (chunks width (length bytes)))
-unfolding finishOf after hold
-finish-is-whole o bytes l =
-    rw (
-      sound-after o bytes l,
-      view-hold o (streamOf o bytes) (good-after o bytes .sixteen),
-      stream-is-message lanes (o .avalanche) (o .protected) (o .secrets) bytes (omega arith),
-      stream-count lanes (o .protected) (o .secrets) bytes (omega arith),
-    )
+  -- (b) Finish after L any bytes that are not too many answers the hash of them as one message, and the number of chunks that this mixes.
+  pub finish-is-whole : (o : Settings) (bytes : List ℕ) → length bytes ≤ most
+      → finishOf L (after L o bytes) ≡ found (Hash (hashOf L (o .avalanche) (o .protected) (o .secrets) bytes) (chunks (16 * L) (length bytes)))
+  unfolding finishOf after hold
+  finish-is-whole o bytes l =
+      rw (
+        sound-after L o pos bytes l,
+        view-hold o (streamOf L o bytes) (good-after L o pos bytes .sixteen),
+        stream-is-message L (o .avalanche) (o .protected) (o .secrets) bytes pos,
+        stream-count L (o .protected) (o .secrets) bytes pos,
+      )
 
-module _ (h : RapidStreamHasher) (s : List ℕ) where
-  -- (d) A write to a state that is not sound says so and gives the state back.
-  pub refused-not-sound : sound h ≡ false → writeOf h s ≡ record { state = h; says = said NotSound }
-  unfolding writeOf
-  refused-not-sound e = rw e
+  module _ (h : RapidStreamHasher) (s : List ℕ) where
+    -- (d) A write to a state that is not sound L says so and gives the state back.
+    pub refused-not-sound : sound L h ≡ false → writeOf L h s ≡ record { state = h; says = said NotSound }
+    unfolding writeOf
+    refused-not-sound e = rw e
 
-  -- A write that would make the stream too long says how many bytes there is room for, and gives the state back.
-  pub refused-too-long : sound h ≡ true → most < sofar h + length s → writeOf h s ≡ record { state = h; says = said (TooLong (most - sofar h)) }
-  unfolding writeOf
-  refused-too-long e l = rw (e, lt-leb (sofar h + length s) most l)
+    -- A write that would make the stream too long says how many bytes there is room for, and gives the state back.
+    pub refused-too-long : sound L h ≡ true → most < sofar L h + length s → writeOf L h s ≡ record { state = h; says = said (TooLong (most - sofar L h)) }
+    unfolding writeOf
+    refused-too-long e l = rw (e, lt-leb (sofar L h + length s) most l)
 
-  -- Any other write takes all of the bytes.
-  pub taken-when : sound h ≡ true → sofar h + length s ≤ most → writeOf h s ≡ record { state = taken h s; says = said Took }
-  unfolding writeOf
-  taken-when e l = rw (e, le-leb (sofar h + length s) most l)
+    -- Any other write takes all of the bytes.
+    pub taken-when : sound L h ≡ true → sofar L h + length s ≤ most → writeOf L h s ≡ record { state = taken L h s; says = said Took }
+    unfolding writeOf
+    taken-when e l = rw (e, le-leb (sofar L h + length s) most l)
 
--- (c) An opening is sound.
-pub opening-sound : (o : Settings) → sound (openingOf o) ≡ true
-opening-sound o = rw (after-none o) at (sound-after o [] (omega arith))
+  -- (c) An opening is sound L.
+  pub opening-sound : (o : Settings) → sound L (openingOf o) ≡ true
+  opening-sound o = rw (after-none L o) at (sound-after L o pos [] (omega arith))
 
--- So is a state after reset, whatever it was before.
-pub reset-sound : (h : RapidStreamHasher) → sound (resetOf h) ≡ true
-unfolding resetOf
-reset-sound h = opening-sound (h .settings)
+  -- So is a state after L reset, whatever it was before.
+  pub reset-sound : (h : RapidStreamHasher) → sound L (resetOf h) ≡ true
+  unfolding resetOf
+  reset-sound h = opening-sound (h .settings)
 
--- And a sound state stays so by a write, whether this takes the bytes or refuses them.
-pub written-sound : (h : RapidStreamHasher) (s : List ℕ) → length (h .buffer) ≡ 128 → sound h ≡ true → sound (writeOf h s .state) ≡ true
-unfolding taken
-written-sound h s size ok = go (decLe (sofar h + length s) most)
-  where
-    go : Dec (sofar h + length s ≤ most) → sound (writeOf h s .state) ≡ true
-    go (yes l) =
-        let o = h .settings in
-        let g = good-view h size ok in
-        let n : total lanes (fed o (view h) s) ≡ sofar h + length s = total-fed o (view h) s g ∙ rw (total-view h size ok) in
-        rw (taken-when h s ok l) (sound-hold o (fed o (view h) s) (good-fed o (view h) s g) (omega arith))
-    go (no n) = rw (refused-too-long h s ok (omega arith)) ok
+  -- And a sound L state stays so by a write, whether this takes the bytes or refuses them.
+  pub written-sound : (h : RapidStreamHasher) (s : List ℕ) → length (h .buffer) ≡ 128 → sound L h ≡ true → sound L (writeOf L h s .state) ≡ true
+  unfolding taken
+  written-sound h s size ok = go (decLe (sofar L h + length s) most)
+    where
+      go : Dec (sofar L h + length s ≤ most) → sound L (writeOf L h s .state) ≡ true
+      go (yes l) =
+          let o = h .settings in
+          let g = good-view L few h size ok in
+          let n : total L (fed L o (view h) s) ≡ sofar L h + length s = total-fed L o pos (view h) s g ∙ rw (total-view L few h size ok) in
+          rw (taken-when h s ok l) (sound-hold o (fed L o (view h) s) L (good-fed L o pos (view h) s g) (omega arith))
+      go (no n) = rw (refused-too-long h s ok (omega arith)) ok
 
--- what comes from a write on is what it says, and what comes from its state on
-after-write : (h : RapidStreamHasher) (s : List ℕ) (cs : List Call) {a : Answer} → writeOf h s ≡ a
-    → onStates h (write s ∷ cs) ≡ first (wrote (a .says)) (onStates (a .state) cs)
-unfolding onStates
-after-write h s cs e = rw e
+  -- what comes from a write on is what it says, and what comes from its state on
+  after-write : (h : RapidStreamHasher) (s : List ℕ) (cs : List Call) {a : Answer} → writeOf L h s ≡ a
+      → onStates L h (write s ∷ cs) ≡ first (wrote (a .says)) (onStates L (a .state) cs)
+  unfolding onStates
+  after-write h s cs e = rw e
 
--- the run on states that a run on the list stands for: the same replies, and the state of the bytes
-abbrev pub stated : Settings → Listed → Ran
-stated o l = record { replies = l .replies; state = after o (l .bytes) }
+  -- the run on states that a run on the list stands for: the same replies, and the state of the bytes
+  abbrev pub stated : Settings → Listed → Ran
+  stated o l = record { replies = l .replies; state = after L o (l .bytes) }
 
--- if the later calls go alike, so do a write and the later calls
-alike-write : (o : Settings) (bytes s : List ℕ) (cs : List Call) → length bytes ≤ most
-    → ((b : List ℕ) → length b ≤ most → onStates (after o b) cs ≡ stated o (onList o b cs))
-    → onStates (after o bytes) (write s ∷ cs) ≡ stated o (onList o bytes (write s ∷ cs))
-unfolding onList
-alike-write o bytes s cs m later = go (decLe (length bytes + length s) most)
-  where
-    h : RapidStreamHasher
-    h = after o bytes
+  -- if the later calls go alike, so do a write and the later calls
+  alike-write : (o : Settings) (bytes s : List ℕ) (cs : List Call) → length bytes ≤ most
+      → ((b : List ℕ) → length b ≤ most → onStates L (after L o b) cs ≡ stated o (onList L o b cs))
+      → onStates L (after L o bytes) (write s ∷ cs) ≡ stated o (onList L o bytes (write s ∷ cs))
+  unfolding onList
+  alike-write o bytes s cs m later = go (decLe (length bytes + length s) most)
+    where
+      h : RapidStreamHasher
+      h = after L o bytes
 
-    go : Dec (length bytes + length s ≤ most) → onStates h (write s ∷ cs) ≡ stated o (onList o bytes (write s ∷ cs))
-    go (yes l) =
-        after-write h s cs (taken-when h s (sound-after o bytes m) (rw (sofar-after o bytes) l))
-        ∙ rw (taken-after o bytes s, later (bytes ++ s) (rw length-append l), le-leb (length bytes + length s) most l)
-    go (no n) =
-        let l : most < length bytes + length s = omega arith in
-        after-write h s cs (refused-too-long h s (sound-after o bytes m) (rw (sofar-after o bytes) l))
-        ∙ rw (sofar-after o bytes, later bytes m, lt-leb (length bytes + length s) most l)
+      go : Dec (length bytes + length s ≤ most) → onStates L h (write s ∷ cs) ≡ stated o (onList L o bytes (write s ∷ cs))
+      go (yes l) =
+          after-write h s cs (taken-when h s (sound-after L o pos bytes m) (rw (sofar-after L o pos bytes) l))
+          ∙ rw (taken-after o bytes s, later (bytes ++ s) (rw length-append l), le-leb (length bytes + length s) most l)
+      go (no n) =
+          let l : most < length bytes + length s = omega arith in
+          after-write h s cs (refused-too-long h s (sound-after L o pos bytes m) (rw (sofar-after L o pos bytes) l))
+          ∙ rw (sofar-after L o pos bytes, later bytes m, lt-leb (length bytes + length s) most l)
 
--- the general statement: from the state after any bytes, as from those bytes as a list
-pub from-after : (o : Settings) (bytes : List ℕ) (cs : List Call) → length bytes ≤ most → onStates (after o bytes) cs ≡ stated o (onList o bytes cs)
-unfolding onStates onList
-from-after o bytes [] m = refl
-from-after o bytes (write s ∷ cs) m = alike-write o bytes s cs m (λ b l. from-after o b cs l)
-from-after o bytes (finish ∷ cs) m = rw (finish-is-whole o bytes m, from-after o bytes cs m)
-from-after o bytes (reset ∷ cs) m = rw (reset-after o bytes, from-after o [] cs (omega arith))
+  -- the general statement: from the state after L any bytes, as from those bytes as a list
+  pub from-after : (o : Settings) (bytes : List ℕ) (cs : List Call) → length bytes ≤ most → onStates L (after L o bytes) cs ≡ stated o (onList L o bytes cs)
+  unfolding onStates onList
+  from-after o bytes [] m = refl
+  from-after o bytes (write s ∷ cs) m = alike-write o bytes s cs m (λ b l. from-after o b cs l)
+  from-after o bytes (finish ∷ cs) m = rw (finish-is-whole o bytes m, from-after o bytes cs m)
+  from-after o bytes (reset ∷ cs) m = rw (reset-after L o bytes, from-after o [] cs (omega arith))
 
--- (e) For every sequence of writes, finishes and resets from any opening, the states answer at each step as a plain list of the accepted bytes
--- does, refused writes included, and the last state is the opening with those bytes written at once. A finish changes nothing: the calls after
--- it go as if it had not been.
-pub as-a-list : (o : Settings) (cs : List Call)
-    → onStates (openingOf o) cs ≡ record { replies = onList o [] cs .replies; state = taken (openingOf o) (onList o [] cs .bytes) }
-as-a-list o cs =
-    let last : taken (after o []) (onList o [] cs .bytes) ≡ after o (onList o [] cs .bytes) = taken-after o [] (onList o [] cs .bytes) in
-    rw (← after-none o) (from-after o [] cs (omega arith) ∙ rw last)
+  -- (e) For every sequence of writes, finishes and resets from any opening, the states answer at each step as a plain list of the accepted bytes
+  -- does, refused writes included, and the last state is the opening with those bytes written at once. A finish changes nothing: the calls after L
+  -- it go as if it had not been.
+  pub as-a-list : (o : Settings) (cs : List Call)
+      → onStates L (openingOf o) cs ≡ record { replies = onList L o [] cs .replies; state = taken L (openingOf o) (onList L o [] cs .bytes) }
+  as-a-list o cs =
+      let last : taken L (after L o []) (onList L o [] cs .bytes) ≡ after L o (onList L o [] cs .bytes) = taken-after o [] (onList L o [] cs .bytes) in
+      rw (← after-none L o) (from-after o [] cs (omega arith) ∙ rw last)

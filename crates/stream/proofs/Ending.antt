@@ -12,9 +12,10 @@ use Rattle.rapidhash.specs.Words.{word}
 use Rattle.rapidhash.specs.Hash.{joined, turns, tail, tailEnds, endsOf, lastOf, hashOf}
 use Rattle.rapidhash.specs.declared.v3.rapid_const.Ends.{Ends}
 use Rattle.stream.specs.Stream.{slide, streamEnds, streamHash}
-use Rattle.stream.specs.State.{lanes, width, view}
+use Rattle.stream.specs.State.{view}
 use Rattle.stream.specs.declared.rapid_stream_hasher.RapidStreamHasher.{RapidStreamHasher}
 use Rattle.stream.proofs.Whole.{word-drop}
+use Rattle.stream.proofs.Seven.{lanes, width}
 
 -- a word within the first bytes is a word of all
 word-take : (n : ℕ) (s : List ℕ) (k i : ℕ) → i + n ≤ k → word n (take k s) i ≡ word n s i

@@ -10,7 +10,7 @@ use lib.Seq.{take-at, drop-at, take-append-seam, length-take-le, take-add}
 use borrow.Author.Tests.{eq-eqb, eqb-true}
 use Rattle.rapidhash.specs.Choice.{allAre}
 use Rattle.stream.specs.Stream.{Stream}
-use Rattle.stream.specs.State.{lanes, width, most, sofar, view, hold, sound}
+use Rattle.stream.specs.State.{most, sofar, view, hold, sound}
 use Rattle.stream.specs.declared.rapid_stream_hasher.Settings.{Settings}
 use Rattle.stream.specs.declared.rapid_stream_hasher.RapidStreamHasher.{RapidStreamHasher}
 use Rattle.stream.proofs.Good.{Good, total}
@@ -33,7 +33,7 @@ are-copies v (x ∷ xs) e =
 module _ (o : Settings) (t : Stream) where
   -- the zeros behind the bytes that wait
   abbrev zeros : List ℕ
-  zeros = replicate (width - length (t .rest)) 0
+  zeros = replicate (112 - length (t .rest)) 0
 
   -- the buffer begins with the previous bytes
   hold-first : length (t .prev) ≡ 16 → take 16 (t .prev ++ t .rest ++ zeros) ≡ t .prev
@@ -46,32 +46,32 @@ module _ (o : Settings) (t : Stream) where
       rw (hold-first e, append-assoc (t .prev) (t .rest) zeros, drop-at (t .prev) (t .rest ++ zeros) 16 e, take-append-seam (t .rest) zeros)
 
   -- a stream such as from an opening that is not too long is held by a sound state
-  pub sound-hold : Good lanes (o .secrets .seed) t → total lanes t ≤ most → sound (hold o t) ≡ true
+  pub sound-hold : (L : ℕ) → Good L (o .secrets .seed) t → total L t ≤ most → sound L (hold o t) ≡ true
   unfolding hold
-  sound-hold g m =
+  sound-hold L g m =
       let last : drop (16 + length (t .rest)) (t .prev ++ t .rest ++ zeros) ≡ zeros =
       drop-at (t .prev ++ t .rest) zeros (16 + length (t .rest)) (rw (length-append, g .sixteen)) in
-      facts-sound (hold o t)
+      facts-sound L (hold o t)
       (record {
         within = g .within;
         fresh = g .fresh;
         blank = λ e. rw (hold-first (g .sixteen)) (g .blank e);
         follows = g .follows;
-        unused = rw last (copies-are 0 (width - length (t .rest)));
+        unused = rw last (copies-are 0 (112 - length (t .rest)));
         short = m;
       })
 
-module _ (h : RapidStreamHasher) (size : length (h .buffer) ≡ 128) (ok : sound h ≡ true) where
+module _ (L : ℕ) (few : L ≤ 7) (h : RapidStreamHasher) (size : length (h .buffer) ≡ 128) (ok : sound L h ≡ true) where
   -- as many bytes wait as the state says
   pub waits : length (view h .rest) ≡ h .waiting
   unfolding view
-  waits = length-take-le (h .waiting) (drop 16 (h .buffer)) (rw length-drop (omega (arith, sound-facts h ok .within)))
+  waits = length-take-le (h .waiting) (drop 16 (h .buffer)) (rw length-drop (omega (arith, sound-facts L h ok .within)))
 
   -- a sound state holds a stream such as from an opening
-  pub good-view : Good lanes (h .settings .secrets .seed) (view h)
+  pub good-view : Good L (h .settings .secrets .seed) (view h)
   unfolding view
   good-view =
-      let f = sound-facts h ok in
+      let f = sound-facts L h ok in
       record {
         sixteen = length-take-le 16 (h .buffer) (omega arith);
         within = rw waits (f .within);
@@ -81,7 +81,7 @@ module _ (h : RapidStreamHasher) (size : length (h .buffer) ≡ 128) (ok : sound
       }
 
   -- of as many bytes as the state has gone by
-  pub total-view : total lanes (view h) ≡ sofar h
+  pub total-view : total L (view h) ≡ sofar L h
   unfolding view
   total-view = rw waits
 
@@ -89,7 +89,7 @@ module _ (h : RapidStreamHasher) (size : length (h .buffer) ≡ 128) (ok : sound
   pub hold-view : hold (h .settings) (view h) ≡ h
   unfolding hold view
   hold-view =
-      let left : length (h .buffer) - (16 + h .waiting) ≡ width - h .waiting = omega (arith, sound-facts h ok .within) in
-      let last : drop (16 + h .waiting) (h .buffer) ≡ replicate (width - h .waiting) 0 =
-      are-copies 0 (drop (16 + h .waiting) (h .buffer)) (sound-facts h ok .unused) ∙ rw (length-drop, left) in
+      let left : length (h .buffer) - (16 + h .waiting) ≡ 112 - h .waiting = omega (arith, sound-facts L h ok .within) in
+      let last : drop (16 + h .waiting) (h .buffer) ≡ replicate (112 - h .waiting) 0 =
+      are-copies 0 (drop (16 + h .waiting) (h .buffer)) (sound-facts L h ok .unused) ∙ rw (length-drop, left) in
       rw (waits, ← take-add 16 (h .waiting) (h .buffer), ← last, take-append-drop)

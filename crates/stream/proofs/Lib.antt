@@ -10,6 +10,7 @@ pub mod Feed
 pub mod Good
 pub mod Hold
 pub mod ReadBack
+pub mod Seven
 pub mod Slide
 pub mod Sound
 pub mod Whole

@@ -1,5 +1,5 @@
 -- The tests of a sound state, each as the fact that it tells. Assumes nothing.
-use Prim.Native.Nat.{ℕ, _+_, _≤_, _<_}
+use Prim.Native.Nat.{ℕ, _+_, _*_, _≤_, _<_}
 use mathlib.Core.Path.{_≡_, refl}
 use mathlib.Core.Bool.{Bool, true, false}
 use native.Mathlib.Omega.{arith}
@@ -7,18 +7,8 @@ use lib.Dec.{eqb, leb}
 use lib.ListN.{take, drop}
 use borrow.Author.Tests.{le-leb, leb-true, eq-eqb, ne-eqb, eqb-true, eqb-false}
 use Rattle.rapidhash.specs.Choice.{pick, allAre}
-use Rattle.stream.specs.State.{width, most, sofar, sound}
+use Rattle.stream.specs.State.{most, sofar, sound}
 use Rattle.stream.specs.declared.rapid_stream_hasher.RapidStreamHasher.{RapidStreamHasher}
-
--- at most a chunk waits; before the first chunk the lanes are the seed and the first 16 bytes zero; after it at least one byte waits; unused
--- bytes are zero; it is not too long
-pub record Facts (h : RapidStreamHasher) : Type 0 where
-  pub within : h .waiting ≤ width
-  pub fresh : h .count ≡ 0 → allAre (h .settings .secrets .seed) (h .lanes) ≡ true
-  pub blank : h .count ≡ 0 → allAre 0 (take 16 (h .buffer)) ≡ true
-  pub follows : 0 < h .count → 0 < h .waiting
-  pub unused : allAre 0 (drop (16 + h .waiting) (h .buffer)) ≡ true
-  pub short : sofar h ≤ most
 
 -- a list of tests holds if the first does and the rest do
 pub also : {t a : Bool} → t ≡ true → a ≡ true → pick t a false ≡ true
@@ -52,32 +42,42 @@ module _ (n : ℕ) (a : Bool) where
   some-asks : pick (eqb n 0) true a ≡ true → 0 < n → a ≡ true
   some-asks h p = rw (ne-eqb n 0 (λ e. omega arith)) at h
 
-module _ (h : RapidStreamHasher) where
+-- at most a chunk waits; before the first chunk the lanes are the seed and the first 16 bytes zero; after it at least one byte waits; unused
+-- bytes are zero; it is not too long
+pub record Facts (L : ℕ) (h : RapidStreamHasher) : Type 0 where
+  pub within : h .waiting ≤ 16 * L
+  pub fresh : h .count ≡ 0 → allAre (h .settings .secrets .seed) (h .lanes) ≡ true
+  pub blank : h .count ≡ 0 → allAre 0 (take 16 (h .buffer)) ≡ true
+  pub follows : 0 < h .count → 0 < h .waiting
+  pub unused : allAre 0 (drop (16 + h .waiting) (h .buffer)) ≡ true
+  pub short : sofar L h ≤ most
+
+module _ (L : ℕ) (h : RapidStreamHasher) where
   -- the facts make a state sound
-  pub facts-sound : Facts h → sound h ≡ true
+  pub facts-sound : Facts L h → sound L h ≡ true
   unfolding sound
   facts-sound f =
-      also (le-leb (h .waiting) width (f .within))
+      also (le-leb (h .waiting) (16 * L) (f .within))
       (also (at-zero (h .count) (allAre (h .settings .secrets .seed) (h .lanes)) (f .fresh))
       (also (at-zero (h .count) (allAre 0 (take 16 (h .buffer))) (f .blank))
       (also (above-zero (h .count) (leb 1 (h .waiting)) (λ p. le-leb 1 (h .waiting) (f .follows p)))
-      (also (f .unused) (also (le-leb (sofar h) most (f .short)) refl)))))
+      (also (f .unused) (also (le-leb (sofar L h) most (f .short)) refl)))))
 
   -- and a sound state has them
-  pub sound-facts : sound h ≡ true → Facts h
+  pub sound-facts : sound L h ≡ true → Facts L h
   unfolding sound
   sound-facts ok =
-      let a = both (leb (h .waiting) width) _ ok in
+      let a = both (leb (h .waiting) (16 * L)) _ ok in
       let b = both _ _ (a .1) in
       let c = both _ _ (b .1) in
       let d = both _ _ (c .1) in
       let e = both _ _ (d .1) in
       let f = both _ _ (e .1) in
       record {
-        within = leb-true (h .waiting) width (a .0);
+        within = leb-true (h .waiting) (16 * L) (a .0);
         fresh = zero-asks (h .count) _ (b .0);
         blank = zero-asks (h .count) _ (c .0);
         follows = λ p. leb-true 1 (h .waiting) (some-asks (h .count) _ (d .0) p);
         unused = e .0;
-        short = leb-true (sofar h) most (f .0);
+        short = leb-true (sofar L h) most (f .0);
       }

@@ -12,7 +12,7 @@ use lib.Seq.{take-at, take-all, drop-at, drop-append-add, length-take-le}
 use Rattle.rapidhash.specs.Hash.{chunkStep, firstOf, mixedOf}
 use Rattle.rapidhash.specs.declared.v3.lanes.Mixed.{Mixed}
 use Rattle.stream.specs.Stream.{Stream, slide, mixedIn, feed}
-use Rattle.stream.specs.State.{lanes, width, most, sofar, view, hold, sound, taken}
+use Rattle.stream.specs.State.{most, sofar, view, hold, sound, taken}
 use Rattle.stream.specs.declared.rapid_stream_hasher.Settings.{Settings}
 use Rattle.stream.specs.declared.rapid_stream_hasher.RapidStreamHasher.{RapidStreamHasher}
 use Rattle.stream.proofs.Buffer.{drop-zeros}
@@ -20,19 +20,20 @@ use Rattle.stream.proofs.Clauses.{to-end}
 use Rattle.stream.proofs.Feed.{feed-append, feed-short, feed-next, feed-chunks}
 use Rattle.stream.proofs.Hold.{waits, good-view, hold-view}
 use Rattle.stream.proofs.Sound.{sound-facts}
+use Rattle.stream.proofs.Seven.{lanes, width, few-lanes}
 
-module _ (h : RapidStreamHasher) (size : length (h .buffer) ≡ 128) (ok : sound h ≡ true) where
+module _ (h : RapidStreamHasher) (size : length (h .buffer) ≡ 128) (ok : sound lanes h ≡ true) where
   -- the bytes before and those that wait
   abbrev used : List ℕ
   used = view h .prev ++ view h .rest
 
   used-length : length used ≡ 16 + h .waiting
-  used-length = length-append (view h .prev) (view h .rest) ∙ rw (good-view h size ok .sixteen, waits h size ok)
+  used-length = length-append (view h .prev) (view h .rest) ∙ rw (good-view lanes few-lanes h size ok .sixteen, waits lanes few-lanes h size ok)
 
   -- stand in the buffer, and then zeros
   buffer-is : h .buffer ≡ used ++ replicate (width - h .waiting) 0
   unfolding hold
-  buffer-is = sym (ap (λ (x : RapidStreamHasher). x .buffer) (hold-view h size ok)) ∙ rw (waits h size ok)
+  buffer-is = sym (ap (λ (x : RapidStreamHasher). x .buffer) (hold-view lanes few-lanes h size ok)) ∙ rw (waits lanes few-lanes h size ok)
 
   -- up to a place
   front : take (16 + h .waiting) (h .buffer) ≡ used
@@ -48,12 +49,12 @@ module _ (h : RapidStreamHasher) (size : length (h .buffer) ≡ 128) (ok : sound
   module _ (s b : List ℕ) (room : h .waiting + length s ≤ width) where
     -- bytes for which there is room only wait
     pub waited-is : b ≡ take (16 + h .waiting) (h .buffer) ++ s ++ drop (16 + h .waiting + length s) (h .buffer)
-        → record { settings = h .settings; lanes = h .lanes; count = h .count; waiting = h .waiting + length s; buffer = b } ≡ taken h s
+        → record { settings = h .settings; lanes = h .lanes; count = h .count; waiting = h .waiting + length s; buffer = b } ≡ taken lanes h s
     unfolding taken hold view
     waited-is e =
         let o = h .settings in
-        let fed = feed-short lanes (o .protected) (o .secrets .secrets) (view h) s (rw (waits h size ok) room) in
-        let len : length (view h .rest ++ s) ≡ h .waiting + length s = length-append (view h .rest) s ∙ rw (waits h size ok) in
+        let fed = feed-short lanes (o .protected) (o .secrets .secrets) (view h) s (rw (waits lanes few-lanes h size ok) room) in
+        let len : length (view h .rest ++ s) ≡ h .waiting + length s = length-append (view h .rest) s ∙ rw (waits lanes few-lanes h size ok) in
         let buf : view h .prev ++ (view h .rest ++ s) ++ replicate (width - length (view h .rest ++ s)) 0 ≡ b =
         rw (len, e, front, back (length s), append-assoc (view h .prev) (view h .rest) s) in
         sym (ap (λ (x : Stream). hold o x) fed ∙ held len buf)
@@ -67,7 +68,7 @@ module _ (h : RapidStreamHasher) (size : length (h .buffer) ≡ 128) (ok : sound
   -- where none waits the stream has just mixed a chunk, or none
   pub none-waits : (s : List ℕ) {r : RapidStreamHasher} → h .waiting ≡ 0
       → r ≡ hold (h .settings) (feed lanes (h .settings .protected) (h .settings .secrets .secrets) (record { lanes = h .lanes; count = h .count; prev = take 16 (h .buffer); rest = [] }) s)
-      → r ≡ taken h s
+      → r ≡ taken lanes h s
   unfolding taken view
   none-waits s z e = rw z e
 
@@ -81,7 +82,7 @@ module _ (h : RapidStreamHasher) (size : length (h .buffer) ≡ 128) (ok : sound
     filled = length-take-le (width - h .waiting) s (omega arith)
 
     chunk-length : length chunk ≡ width
-    chunk-length = length-append (view h .rest) (take (width - h .waiting) s) ∙ rw (waits h size ok, filled) (omega (arith, sound-facts h ok .within))
+    chunk-length = length-append (view h .rest) (take (width - h .waiting) s) ∙ rw (waits lanes few-lanes h size ok, filled) (omega (arith, sound-facts lanes h ok .within))
 
     -- stands in the full buffer after the bytes before it
     full-is : full ≡ view h .prev ++ chunk
@@ -90,7 +91,7 @@ module _ (h : RapidStreamHasher) (size : length (h .buffer) ≡ 128) (ok : sound
         e ∙ rw (filled, front, back (width - h .waiting), none, append-nil, append-assoc)
 
     full-chunk : drop 16 full ≡ chunk
-    full-chunk = rw full-is (drop-at (view h .prev) chunk 16 (good-view h size ok .sixteen))
+    full-chunk = rw full-is (drop-at (view h .prev) chunk 16 (good-view lanes few-lanes h size ok .sixteen))
 
     full-last : drop width full ≡ slide (view h .prev) chunk
     unfolding slide
@@ -105,12 +106,12 @@ module _ (h : RapidStreamHasher) (size : length (h .buffer) ≡ 128) (ok : sound
     -- it is mixed, and the other bytes go on from there
     pub chunk-filled : {l : List ℕ} {r : RapidStreamHasher} → l ≡ firstOf lanes (h .settings .protected) (h .settings .secrets .secrets) (h .lanes) (drop 16 full)
         → r ≡ hold (h .settings) (feed lanes (h .settings .protected) (h .settings .secrets .secrets) (record { lanes = l; count = h .count + 1; prev = drop width full; rest = [] }) (drop (width - h .waiting) s))
-        → r ≡ taken h s
+        → r ≡ taken lanes h s
     unfolding taken mixedIn view
     chunk-filled {l} el er =
         let o = h .settings in
         let first = feed-short lanes (o .protected) (o .secrets .secrets) (view h) (take (width - h .waiting) s) (rw (← length-append, chunk-length) (le-refl _)) in
-        let next = feed-next lanes (o .protected) (o .secrets .secrets) (omega arith) waiting (drop (width - h .waiting) s) chunk-length (rw length-drop (omega (arith, sound-facts h ok .within))) in
+        let next = feed-next lanes (o .protected) (o .secrets .secrets) (omega arith) waiting (drop (width - h .waiting) s) chunk-length (rw length-drop (omega (arith, sound-facts lanes h ok .within))) in
         let parts : feed lanes (o .protected) (o .secrets .secrets) (view h) s
         ≡ feed lanes (o .protected) (o .secrets .secrets) (mixedIn lanes (o .protected) (o .secrets .secrets) waiting) (drop (width - h .waiting) s) =
         ap (λ (x : List ℕ). feed lanes (o .protected) (o .secrets .secrets) (view h) x) (sym (take-append-drop (width - h .waiting) s))
@@ -132,7 +133,7 @@ module _ (h : RapidStreamHasher) (size : length (h .buffer) ≡ 128) (ok : sound
       → length full ≡ 128
       → l ≡ firstOf lanes (h .settings .protected) (h .settings .secrets .secrets) (h .lanes) (take (128 - 16) (drop 16 full))
       → r ≡ hold (h .settings) (feed lanes (h .settings .protected) (h .settings .secrets .secrets) (record { lanes = l; count = h .count + 1; prev = take (128 - 112) (drop 112 full); rest = [] }) (take (length s - (112 - h .waiting)) (drop (112 - h .waiting) s)))
-      → r ≡ taken h s
+      → r ≡ taken lanes h s
   inner-filled s full over e n el er =
       let z : 112 - h .waiting - 0 ≡ 112 - h .waiting = omega arith in
       chunk-filled s full over (rw z at e) (el ∙ rw (to-end full 16 128 (sym n))) (er ∙ rw (to-end full 112 128 (sym n), to-end s (112 - h .waiting) (length s) refl))

@@ -1,4 +1,4 @@
--- The state that the code keeps of a stream, and the four calls on it (the scope's "The stream"). Assumes nothing.
+-- The state that the code keeps of a stream of L lanes, and the four calls on it (the scope's "The stream"); a chunk has 16 L bytes. Assumes nothing.
 use Prim.Native.Nat.{ℕ, _+_, _-_, _*_, _^_}
 use mathlib.Core.Bool.{Bool, true}
 use mathlib.Core.List.{List, [], _∷_, _++_}
@@ -14,19 +14,11 @@ use Rattle.stream.specs.declared.rapid_stream_hasher.Written.{Written}
 use Rattle.stream.specs.declared.rapid_stream_hasher.Finished.{Finished}
 use Rattle.stream.specs.declared.rapid_stream_hasher.Finished.the-variants.{Hash, NotSound as Unsound}
 
--- the stream has the lanes of the full hash
-abbrev pub lanes : ℕ
-lanes = 7
-
--- its chunk
-abbrev pub width : ℕ
-width = 16 * lanes
-
 -- the stream that a state holds: 16 bytes that end the previous chunk, then the bytes that wait
 unfoldable pub view : RapidStreamHasher → Stream
 view h = record { lanes = h .lanes; count = h .count; prev = take 16 (h .buffer); rest = take (h .waiting) (drop 16 (h .buffer)) }
 
--- the state that holds a stream: bytes that nothing waits in are zero
+-- the state that holds a stream: 16 bytes and then 112, of which those that nothing waits in are zero
 unfoldable pub hold : Settings → Stream → RapidStreamHasher
 hold o t =
     record {
@@ -34,16 +26,16 @@ hold o t =
       lanes = t .lanes;
       count = t .count;
       waiting = length (t .rest);
-      buffer = t .prev ++ t .rest ++ replicate (width - length (t .rest)) 0;
+      buffer = t .prev ++ t .rest ++ replicate (112 - length (t .rest)) 0;
     }
 
 -- the opening state
 unfoldable pub openingOf : Settings → RapidStreamHasher
 openingOf o = hold o (opened (o .secrets .seed))
 
--- the bytes that a state has gone by
-abbrev pub sofar : RapidStreamHasher → ℕ
-sofar h = width * h .count + h .waiting
+-- the bytes that a state of L lanes has gone by
+abbrev pub sofar : ℕ → RapidStreamHasher → ℕ
+sofar L h = 16 * L * h .count + h .waiting
 
 -- the most bytes a stream may have
 abbrev pub most : ℕ
@@ -51,15 +43,15 @@ most = 2 ^ 64 - 1
 
 -- a state is sound if at most a chunk waits; if before the first chunk the lanes are the seed and the first 16 bytes zero; if after it at
 -- least one byte waits; if unused bytes are zero; and if it is not too long
-unfoldable pub sound : RapidStreamHasher → Bool
-sound h =
+unfoldable pub sound : ℕ → RapidStreamHasher → Bool
+sound L h =
     every
-    (leb (h .waiting) width
+    (leb (h .waiting) (16 * L)
     ∷ pick (eqb (h .count) 0) (allAre (h .settings .secrets .seed) (h .lanes)) true
     ∷ pick (eqb (h .count) 0) (allAre 0 (take 16 (h .buffer))) true
     ∷ pick (eqb (h .count) 0) true (leb 1 (h .waiting))
     ∷ allAre 0 (drop (16 + h .waiting) (h .buffer))
-    ∷ leb (sofar h) most
+    ∷ leb (sofar L h) most
     ∷ [])
 
 -- what a call says: a number of the table, and the room left beside 2
@@ -83,16 +75,16 @@ abbrev pub answered : Written → Answer
 answered w = record { state = w .state; says = said (w .outcome) }
 
 -- the state after all of the bytes
-unfoldable pub taken : RapidStreamHasher → List ℕ → RapidStreamHasher
-taken h s = hold (h .settings) (feed lanes (h .settings .protected) (h .settings .secrets .secrets) (view h) s)
+unfoldable pub taken : ℕ → RapidStreamHasher → List ℕ → RapidStreamHasher
+taken L h s = hold (h .settings) (feed L (h .settings .protected) (h .settings .secrets .secrets) (view h) s)
 
 -- write: 1 before 2; a refusal gives the state back
-unfoldable pub writeOf : RapidStreamHasher → List ℕ → Answer
-writeOf h s =
-    pick (sound h)
-    (pick (leb (sofar h + length s) most)
-    (record { state = taken h s; says = said Took })
-    (record { state = h; says = said (TooLong (most - sofar h)) }))
+unfoldable pub writeOf : ℕ → RapidStreamHasher → List ℕ → Answer
+writeOf L h s =
+    pick (sound L h)
+    (pick (leb (sofar L h + length s) most)
+    (record { state = taken L h s; says = said Took })
+    (record { state = h; says = said (TooLong (most - sofar L h)) }))
     (record { state = h; says = said NotSound })
 
 -- what finish answers: a number of the table, the hash and the number of chunks mixed
@@ -107,10 +99,10 @@ found (Hash v k) = record { number = 0; hash = v; count = k }
 found Unsound = record { number = 1; hash = 0; count = 0 }
 
 -- finish
-unfoldable pub finishOf : RapidStreamHasher → Found
-finishOf h =
+unfoldable pub finishOf : ℕ → RapidStreamHasher → Found
+finishOf L h =
     let o = h .settings in
-    pick (sound h) (found (Hash (streamHash lanes (o .avalanche) (o .protected) (o .secrets) (view h)) (h .count))) (found Unsound)
+    pick (sound L h) (found (Hash (streamHash L (o .avalanche) (o .protected) (o .secrets) (view h)) (h .count))) (found Unsound)
 
 -- reset: the opening state of the same settings, whatever the state
 unfoldable pub resetOf : RapidStreamHasher → RapidStreamHasher

@@ -8,7 +8,6 @@ ghost use lib.ListN.{length, take, drop};
 ghost use Rattle.rapidhash.specs.Choice.{pick, allAre};
 ghost use Rattle.rapidhash.specs.Words.{word};
 ghost use Rattle.stream.specs.Stream.{feed, streamHash, slide};
-ghost use Rattle.stream.specs.State.{width, lanes as State·lanes};
 ghost use Rattle.stream.specs.State.{view, hold, openingOf, sofar, most, sound, taken, writeOf, finishOf, resetOf};
 ghost use Rattle.stream.specs.State.{answered, found};
 use rapidhash::util::read::Found;
@@ -78,7 +77,7 @@ impl RapidStreamHasher {
 
     // The next state where all bytes are taken; else the state as it was, and why.
     pub fn write(self, data: &[u8]) -> Written
-        ensures { λ r. ⌜ answered r ≡ writeOf self (now («data» .entry)) ⌝ }
+        ensures { λ r. ⌜ answered r ≡ writeOf 7 self (now («data» .entry)) ⌝ }
     {
         if !is_sound(self) {
             return Written {
@@ -102,7 +101,7 @@ impl RapidStreamHasher {
 
     // The hash of the bytes so far, and how many chunks were mixed. The state stays the caller's.
     pub fn finish(self) -> Finished
-        ensures { λ r. ⌜ found r ≡ finishOf self ⌝ }
+        ensures { λ r. ⌜ found r ≡ finishOf 7 self ⌝ }
     {
         if is_sound(self) {
             Finished::Hash(hash_of(self), self.count)
@@ -135,7 +134,7 @@ fn opening(settings: Settings) -> RapidStreamHasher
 
 // Whether a state may be gone on from.
 fn is_sound(h: RapidStreamHasher) -> bool
-    ensures { λ r. ⌜ r ≡ sound h ⌝ }
+    ensures { λ r. ⌜ r ≡ sound 7 h ⌝ }
 {
     let m = h.waiting;
     let k = h.count;
@@ -158,7 +157,7 @@ fn is_sound(h: RapidStreamHasher) -> bool
 
 // Whether at most a chunk waits and the stream is not too long. By a difference, so that no sum wraps.
 fn is_sized(count: u64, waiting: usize) -> bool
-    ensures { λ r. ⌜ r ≡ pick (leb waiting width) (leb (width * count + waiting) most) false ⌝ }
+    ensures { λ r. ⌜ r ≡ pick (leb waiting 112) (leb (112 * count + waiting) most) false ⌝ }
 {
     if 112 < waiting {
         return false;
@@ -171,7 +170,7 @@ fn is_sized(count: u64, waiting: usize) -> bool
 
 // Whether nothing stands behind the bytes that wait.
 fn is_clear_after(buffer: [u8; 128], waiting: usize) -> bool
-    requires { ⌜ waiting ≤ width ⌝ }
+    requires { ⌜ waiting ≤ 112 ⌝ }
     ensures { λ r. ⌜ r ≡ allAre 0 (drop (16 + waiting) buffer) ⌝ }
 {
     let at = 16 + waiting;
@@ -199,16 +198,16 @@ fn lanes_are(lanes: [u64; 7], seed: u64) -> bool
 
 // How many bytes more the stream may take.
 fn room_left(count: u64, waiting: usize) -> u64
-    requires { ⌜ width * count + waiting ≤ most ⌝ }
-    ensures { λ r. ⌜ r ≡ most - (width * count + waiting) ⌝ }
+    requires { ⌜ 112 * count + waiting ≤ most ⌝ }
+    ensures { λ r. ⌜ r ≡ most - (112 * count + waiting) ⌝ }
 {
     u64::MAX - (112 * count + waiting as u64)
 }
 
 // All bytes taken: while they fit they only wait.
 fn with_bytes(h: RapidStreamHasher, data: &[u8]) -> RapidStreamHasher
-    requires { ⌜ (sound h ≡ true) × (sofar h + length (now «data») ≤ most) ⌝ }
-    ensures { λ r. ⌜ r ≡ taken h (now («data» .entry)) ⌝ }
+    requires { ⌜ (sound 7 h ≡ true) × (sofar 7 h + length (now «data») ≤ most) ⌝ }
+    ensures { λ r. ⌜ r ≡ taken 7 h (now («data» .entry)) ⌝ }
 {
     let m = h.waiting;
     if data.len() <= 112 - m {
@@ -220,8 +219,8 @@ fn with_bytes(h: RapidStreamHasher, data: &[u8]) -> RapidStreamHasher
 
 // The bytes come to those that wait, in the place of zeros.
 fn waited(h: RapidStreamHasher, data: &[u8]) -> RapidStreamHasher
-    requires { ⌜ (sound h ≡ true) × (h .waiting + length (now «data») ≤ width) ⌝ }
-    ensures { λ r. ⌜ r ≡ taken h (now («data» .entry)) ⌝ }
+    requires { ⌜ (sound 7 h ≡ true) × (h .waiting + length (now «data») ≤ 112) ⌝ }
+    ensures { λ r. ⌜ r ≡ taken 7 h (now («data» .entry)) ⌝ }
 {
     let m = h.waiting;
     let settings = h.settings;
@@ -239,8 +238,8 @@ fn waited(h: RapidStreamHasher, data: &[u8]) -> RapidStreamHasher
 // More bytes than fit. Where none waits, the data's own chunks are the first; else the waiting chunk is filled up and
 // mixed, and the data goes on from there.
 fn write_inner(h: RapidStreamHasher, data: &[u8]) -> RapidStreamHasher
-    requires { ⌜ (sound h ≡ true) × (width < h .waiting + length (now «data»)) × (sofar h + length (now «data») ≤ most) ⌝ }
-    ensures { λ r. ⌜ r ≡ taken h (now («data» .entry)) ⌝ }
+    requires { ⌜ (sound 7 h ≡ true) × (112 < h .waiting + length (now «data»)) × (sofar 7 h + length (now «data») ≤ most) ⌝ }
+    ensures { λ r. ⌜ r ≡ taken 7 h (now («data» .entry)) ⌝ }
 {
     let m = h.waiting;
     let settings = h.settings;
@@ -265,8 +264,8 @@ fn from_chunk_end<'a>(
     prev: &'a [u8],
     data: &'a [u8],
 ) -> RapidStreamHasher
-    requires { ⌜ (length (now prev) ≡ 16) × (width * count + length (now «data») ≤ most) ⌝ }
-    ensures { λ r. ⌜ r ≡ hold settings (feed State·lanes (settings .protected) (settings .secrets .secrets)
+    requires { ⌜ (length (now prev) ≡ 16) × (112 * count + length (now «data») ≤ most) ⌝ }
+    ensures { λ r. ⌜ r ≡ hold settings (feed 7 (settings .protected) (settings .secrets .secrets)
         (record { lanes = lanes; count = count; prev = now (prev .entry); rest = [] }) (now («data» .entry))) ⌝ }
 {
     let s = settings.secrets.secrets;
@@ -303,8 +302,8 @@ fn last_sixteen<'a>(prev: &'a [u8], data: &'a [u8], at: usize) -> &'a [u8]
 
 // The hash of a sound state: while no chunk is mixed, that of the bytes that wait.
 fn hash_of(h: RapidStreamHasher) -> u64
-    requires { ⌜ h .waiting ≤ width ⌝ }
-    ensures { λ r. ⌜ r ≡ streamHash State·lanes (h .settings .avalanche) (h .settings .protected) (h .settings .secrets) (view h) ⌝ }
+    requires { ⌜ h .waiting ≤ 112 ⌝ }
+    ensures { λ r. ⌜ r ≡ streamHash 7 (h .settings .avalanche) (h .settings .protected) (h .settings .secrets) (view h) ⌝ }
 {
     let m = h.waiting;
     let settings = h.settings;

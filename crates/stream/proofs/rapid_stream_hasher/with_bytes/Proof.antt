@@ -6,10 +6,10 @@ use Rattle.stream.proofs.rapid_stream_hasher.with_bytes.Statement.{stat
 use Rattle.stream.proofs.rapid_stream_hasher.with_bytes.Tie as tie
 
 sub-if1 : tie.Need-sub-if1
-sub-if1 c = sound-facts _ (c .before .pre .0) .within
+sub-if1 c = sound-facts 7 _ (c .before .pre .0) .within
 
 waited-requires : tie.Need-waited-requires
-waited-requires c κs = (c .before .before .pre .0, omega (arith, sound-facts _ (c .before .before .pre .0) .within))
+waited-requires c κs = (c .before .before .pre .0, omega (arith, sound-facts 7 _ (c .before .before .pre .0) .within))
 
 pub with-bytes-spec : {M : Type 1} → statement M
 with-bytes-spec =

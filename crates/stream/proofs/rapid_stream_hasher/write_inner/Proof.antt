@@ -20,13 +20,13 @@ returns : tie.Need-returns
 returns c = let a = c .before .before .before .before .before .before .before .before .args in let e : length (a .h .buffer) ≡ 128 = search needs in none-waits (a .h) e (c .before .before .before .before .before .before .before .before .pre .0) (now (a .«data»)) (c .before .before .before .if1 .taken) (c .from-chunk-end .ensures)
 
 sub-fill : tie.Need-sub-fill
-sub-fill c = sound-facts _ (c .before .before .before .before .before .pre .0) .within
+sub-fill c = sound-facts 7 _ (c .before .before .before .before .before .pre .0) .within
 
 add-put : tie.Need-add-put
-add-put c = omega (arith, sound-facts _ (c .before .before .before .before .before .pre .0) .within)
+add-put c = omega (arith, sound-facts 7 _ (c .before .before .before .before .before .pre .0) .within)
 
 put-requires : tie.Need-put-requires
-put-requires c κs = simp length-take (omega (arith, sound-facts _ (c .before .before .before .before .before .before .pre .0) .within))
+put-requires c κs = simp length-take (omega (arith, sound-facts 7 _ (c .before .before .before .before .before .before .pre .0) .within))
 
 returns-2 : tie.Need-returns-2
 returns-2 c = let a = c .before .before .before .before .before .before .before .before .before .before .before .before .before .before .before .before .args in let e = sized (c .before .before .before .before .before .before .before .before .before .before .before .before .before .before .before .before) in let n : length (c .before .before .before .before .before .before .before .before .before .put .result) ≡ 128 = search needs in inner-filled (a .h) e (c .before .before .before .before .before .before .before .before .before .before .before .before .before .before .before .before .pre .0) (now (a .«data»)) (c .before .before .before .before .before .before .before .before .before .put .result) (c .before .before .before .before .before .before .before .before .before .before .before .before .before .before .before .before .pre .1) (c .before .before .before .before .before .before .before .before .before .put .ensures) n (c .before .before .before .before .before .mix-first .ensures) (c .from-chunk-end2 .ensures)
