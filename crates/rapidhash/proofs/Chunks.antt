@@ -5,7 +5,7 @@ use mathlib.Core.Bool.{Bool}
 use mathlib.Core.List.{List}
 use native.Mathlib.Omega.{arith}
 use native.Mathlib.Numerals.{add-one}
-use native.Mathlib.Nat.{div-eq-of-lt, div-eq-sub-div, mul-div-le, mul-suc}
+use native.Mathlib.Nat.{div-eq-of-lt, div-eq-sub-div, lt-div-mul-add, mul-div-le, mul-suc}
 use lib.ListN.{length, take, drop}
 use lib.Seq.{drop-drop}
 use Rattle.rapidhash.specs.Hash.{lanesOf, chunks, chunkStep, lanesAfter, mixedOf}
@@ -26,10 +26,19 @@ chunks-more w n hw h =
     ∙ add-one _
     ∙ ap (λ (k : ℕ). suc (k / w)) (omega arith)
 
+-- a byte follows the chunks, if there is any
+pub chunks-before : (w n : ℕ) → w * chunks w n ≤ n - 1
+unfolding chunks
+chunks-before w n = mul-div-le (n - 1) w
+
+-- and they leave no more than one of them has
+pub chunks-left : (w n : ℕ) → 0 < w → n - w * chunks w n ≤ w
+unfolding chunks
+chunks-left w n h = omega (arith, lt-div-mul-add {a = n - 1} {b = w} h)
+
 -- the chunks end within the message
 pub chunks-within : (w n : ℕ) → w * chunks w n ≤ n
-unfolding chunks
-chunks-within w n = omega (arith, mul-div-le (n - 1) w)
+chunks-within w n = omega (arith, chunks-before w n)
 
 module _ (L : ℕ) (p : Bool) (sec s : List ℕ) where
   -- a chunk more

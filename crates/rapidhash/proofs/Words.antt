@@ -1,9 +1,10 @@
--- Words of bytes: how a word falls into shorter ones. Assumes nothing.
-use Prim.Native.Nat.{ℕ, zero, suc, _+_, _*_, _^_, _<_}
-use mathlib.Core.Path.{_≡_, ap}
+-- Words of bytes: how a word falls into shorter ones, and where it stands in a part. Assumes nothing.
+use Prim.Native.Nat.{ℕ, zero, suc, _+_, _*_, _^_, _≤_, _<_}
+use mathlib.Core.Path.{_≡_, refl, ap}
 use mathlib.Core.List.{List}
 use native.Mathlib.Omega.{arith}
-use lib.ListN.{getD}
+use lib.ListN.{getD, take, drop}
+use lib.Seq.{getD-take, getD-drop}
 use Rattle.rapidhash.specs.Words.{word}
 
 -- a word of 4 bytes, byte by byte, and its bound
@@ -21,3 +22,19 @@ unfolding word
 word-halves s i =
     let e : (j : ℕ) → getD s (i + 4 + j) 0 ≡ getD s (i + (4 + j)) 0 = λ j. ap (λ (k : ℕ). getD s k 0) (omega arith) in
     omega (arith, e 0, e 1, e 2, e 3)
+
+-- a word of what is left is a word further on
+pub word-drop : (n : ℕ) (s : List ℕ) (d i : ℕ) → word n (drop d s) i ≡ word n s (d + i)
+unfolding word
+word-drop zero s d i = refl
+word-drop (suc n) s d i =
+    let e : d + (i + n) ≡ d + i + n = omega arith in
+    rw (word-drop n s d i, getD-drop, e)
+
+-- a word within the first bytes is a word of all
+pub word-take : (n : ℕ) (s : List ℕ) (k i : ℕ) → i + n ≤ k → word n (take k s) i ≡ word n s i
+unfolding word
+word-take zero s k i h = refl
+word-take (suc n) s k i h =
+    let at : getD (take k s) (i + n) 0 ≡ getD s (i + n) 0 = getD-take k s (i + n) 0 (omega arith) in
+    rw (word-take n s k i (omega arith), at)

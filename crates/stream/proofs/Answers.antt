@@ -7,7 +7,7 @@ use native.Mathlib.Omega.{arith}
 use lib.ListN.{length}
 use borrow.Author.Tests.{not-true, not-false}
 use Rattle.stream.specs.Stream.{streamHash}
-use Rattle.stream.specs.State.{most, sofar, view, sound, taken, said, answered, writeOf, found, finishOf}
+use Rattle.stream.specs.State.{most, sofar, view, sound, taken, said, answered, writeOf, ended, finishOf}
 use Rattle.stream.specs.declared.rapid_stream_hasher.RapidStreamHasher.{RapidStreamHasher}
 use Rattle.stream.specs.declared.rapid_stream_hasher.Outcome.the-variants.{Took, NotSound, TooLong}
 use Rattle.stream.specs.declared.rapid_stream_hasher.Finished.the-variants.{Hash, NotSound as Unsound}
@@ -44,7 +44,7 @@ module _ (h : RapidStreamHasher) (s : List ℕ) (t : Bool) (e : t ≡ sound lane
 module _ (h : RapidStreamHasher) (t : Bool) (e : t ≡ sound lanes h) where
   -- finish on a sound lanes state
   pub finish-done : t ≡ true → {v : ℕ} → v ≡ streamHash lanes (h .settings .avalanche) (h .settings .protected) (h .settings .secrets) (view h)
-      → found (Hash v (h .count)) ≡ finishOf lanes h
+      → ended (Hash v (h .count)) ≡ finishOf lanes h
   unfolding finishOf
   finish-done k ev = rw (sym e ∙ k, ev)
 
@@ -53,6 +53,6 @@ module _ (h : RapidStreamHasher) (t : Bool) (e : t ≡ sound lanes h) where
   finish-within k = sound-facts lanes h (sym e ∙ k) .within
 
   -- and on any other
-  pub finish-unsound : t ≡ false → found Unsound ≡ finishOf lanes h
+  pub finish-unsound : t ≡ false → ended Unsound ≡ finishOf lanes h
   unfolding finishOf
   finish-unsound k = rw (sym e ∙ k)

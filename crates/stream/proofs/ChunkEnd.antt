@@ -8,14 +8,14 @@ use lib.ListN.{length, take, drop, replicate, length-drop}
 use lib.Seq.{take-at, drop-append-add}
 use Rattle.rapidhash.specs.Hash.{chunks, lanesAfter, mixedOf}
 use Rattle.rapidhash.specs.declared.v3.lanes.Mixed.{Mixed}
-use Rattle.rapidhash.proofs.Chunks.{chunks-within}
+use Rattle.rapidhash.proofs.Chunks.{chunks-within, chunks-left}
 use Rattle.stream.specs.Stream.{Stream, slide, feed}
 use Rattle.stream.specs.State.{hold}
 use Rattle.stream.specs.declared.rapid_stream_hasher.Settings.{Settings}
 use Rattle.stream.specs.declared.rapid_stream_hasher.RapidStreamHasher.{RapidStreamHasher}
 use Rattle.stream.proofs.Buffer.{drop-zeros}
 use Rattle.stream.proofs.Clauses.{to-end}
-use Rattle.stream.proofs.Feed.{feed-chunks, chunks-left}
+use Rattle.stream.proofs.Feed.{feed-chunks}
 use Rattle.stream.proofs.Slide.{slide-length}
 use Rattle.stream.proofs.Seven.{lanes, width}
 

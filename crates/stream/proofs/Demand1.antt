@@ -4,7 +4,7 @@ use Prim.Native.Nat.{ℕ}
 use mathlib.Core.Path.{_≡_, refl, _∙_, ap}
 use native.Mathlib.Omega.{arith}
 use Rattle.rapidhash.proofs.Demand1.{OneAnswer, one}
-use Rattle.stream.specs.State.{Said, said, Answer, answered, Found, found}
+use Rattle.stream.specs.State.{Said, said, Answer, answered, Ended, ended}
 use Rattle.stream.specs.declared.rapid_stream_hasher.RapidStreamHasher.{RapidStreamHasher}
 use Rattle.stream.specs.declared.rapid_stream_hasher.Outcome.{Outcome}
 use Rattle.stream.specs.declared.rapid_stream_hasher.Outcome.the-variants.{Took, NotSound, TooLong}
@@ -32,15 +32,15 @@ told-apart (TooLong r) Took e = numbers 2 0 (λ k. omega arith) (ap (λ (s : Sai
 told-apart (TooLong r) NotSound e = numbers 2 1 (λ k. omega arith) (ap (λ (s : Said). s .number) e)
 told-apart (TooLong r) (TooLong q) e = ap TooLong (ap (λ (s : Said). s .room) e)
 
--- and the number, the hash and the count what finish finds
-pub found-apart : (x y : Finished) → found x ≡ found y → x ≡ y
-found-apart (Hash v k) (Hash w l) e =
-    let a : v ≡ w = ap (λ (s : Found). s .hash) e in
-    let b : k ≡ l = ap (λ (s : Found). s .count) e in
+-- and the number, the hash and the count what finish ends in
+pub ended-apart : (x y : Finished) → ended x ≡ ended y → x ≡ y
+ended-apart (Hash v k) (Hash w l) e =
+    let a : v ≡ w = ap (λ (s : Ended). s .hash) e in
+    let b : k ≡ l = ap (λ (s : Ended). s .count) e in
     rw (a, b)
-found-apart (Hash v k) Unsound e = numbers 0 1 (λ k. omega arith) (ap (λ (s : Found). s .number) e)
-found-apart Unsound (Hash w l) e = numbers 1 0 (λ k. omega arith) (ap (λ (s : Found). s .number) e)
-found-apart Unsound Unsound e = refl
+ended-apart (Hash v k) Unsound e = numbers 0 1 (λ k. omega arith) (ap (λ (s : Ended). s .number) e)
+ended-apart Unsound (Hash w l) e = numbers 1 0 (λ k. omega arith) (ap (λ (s : Ended). s .number) e)
+ended-apart Unsound Unsound e = refl
 
 -- the state and the outcome are all of a write's answer
 pub written-apart : (x y : Written) → answered x ≡ answered y → x ≡ y
@@ -59,7 +59,7 @@ pub write-one : OneAnswer write.Post
 write-one κ a r₁ r₂ s p q = written-apart r₁ r₂ (one p q)
 
 pub finish-one : OneAnswer finish.Post
-finish-one κ a r₁ r₂ s p q = found-apart r₁ r₂ (one p q)
+finish-one κ a r₁ r₂ s p q = ended-apart r₁ r₂ (one p q)
 
 pub reset-one : OneAnswer reset.Post
 reset-one κ a r₁ r₂ s p q = one p q

@@ -10,7 +10,7 @@ use lib.ListN.{length, length-append}
 use borrow.Author.Tests.{le-leb, lt-leb}
 use Rattle.rapidhash.specs.Hash.{chunks, hashOf}
 use Rattle.stream.specs.Stream.{opened, feed}
-use Rattle.stream.specs.State.{most, sofar, view, hold, sound, openingOf, said, found, Answer, taken, writeOf, finishOf, resetOf}
+use Rattle.stream.specs.State.{most, sofar, view, hold, sound, openingOf, said, ended, Answer, taken, writeOf, finishOf, resetOf}
 use Rattle.stream.specs.Calls.{Call, write, finish, reset, wrote, Ran, first, onStates, Listed, onList}
 use Rattle.stream.specs.declared.rapid_stream_hasher.Settings.{Settings}
 use Rattle.stream.specs.declared.rapid_stream_hasher.RapidStreamHasher.{RapidStreamHasher}
@@ -44,7 +44,7 @@ module _ (L : ℕ) (pos : 0 < L) (few : L ≤ 7) where
 
   -- (b) Finish after L any bytes that are not too many answers the hash of them as one message, and the number of chunks that this mixes.
   pub finish-is-whole : (o : Settings) (bytes : List ℕ) → length bytes ≤ most
-      → finishOf L (after L o bytes) ≡ found (Hash (hashOf L (o .avalanche) (o .protected) (o .secrets) bytes) (chunks (16 * L) (length bytes)))
+      → finishOf L (after L o bytes) ≡ ended (Hash (hashOf L (o .avalanche) (o .protected) (o .secrets) bytes) (chunks (16 * L) (length bytes)))
   unfolding finishOf after hold
   finish-is-whole o bytes l =
       rw (

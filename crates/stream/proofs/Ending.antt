@@ -5,35 +5,24 @@ use mathlib.Core.Bool.{Bool}
 use mathlib.Core.List.{List, _++_}
 use native.Mathlib.Omega.{arith}
 use lib.Bits.{bitXor}
-use lib.ListN.{length, getD, take, drop, length-drop}
-use lib.Seq.{getD-take, take-add, length-take-le}
+use lib.ListN.{length, getD, take, drop}
+use lib.Seq.{getD-take, take-add}
 use borrow.Author.Tests.{eq-eqb, ne-eqb}
 use Rattle.rapidhash.specs.Words.{word}
 use Rattle.rapidhash.specs.Hash.{joined, turns, tail, tailEnds, endsOf, lastOf, hashOf}
 use Rattle.rapidhash.specs.declared.v3.rapid_const.Ends.{Ends}
+use Rattle.rapidhash.proofs.Words.{word-drop, word-take}
 use Rattle.stream.specs.Stream.{slide, streamEnds, streamHash}
 use Rattle.stream.specs.State.{view}
 use Rattle.stream.specs.declared.rapid_stream_hasher.RapidStreamHasher.{RapidStreamHasher}
-use Rattle.stream.proofs.Whole.{word-drop}
+use Rattle.stream.proofs.Hold.{waits-within}
 use Rattle.stream.proofs.Seven.{lanes, width}
-
--- a word within the first bytes is a word of all
-word-take : (n : ℕ) (s : List ℕ) (k i : ℕ) → i + n ≤ k → word n (take k s) i ≡ word n s i
-unfolding word
-word-take zero s k i h = refl
-word-take (suc n) s k i h =
-    let at : getD (take k s) (i + n) 0 ≡ getD s (i + n) 0 = getD-take k s (i + n) 0 (omega arith) in
-    rw (word-take n s k i (omega arith), at)
 
 module _ (h : RapidStreamHasher) (size : length (h .buffer) ≡ 128) (wide : h .waiting ≤ width) where
   -- the bytes that wait, as the code lends them
   lent : take (16 + h .waiting - 16) (drop 16 (h .buffer)) ≡ view h .rest
   unfolding view
   lent = let e : 16 + h .waiting - 16 ≡ h .waiting = omega arith in rw e
-
-  waits : length (view h .rest) ≡ h .waiting
-  unfolding view
-  waits = length-take-le (h .waiting) (drop 16 (h .buffer)) (rw (length-drop, size) (omega arith))
 
   counted : view h .count ≡ h .count
   unfolding view
@@ -51,7 +40,7 @@ module _ (h : RapidStreamHasher) (size : length (h .buffer) ≡ 128) (wide : h .
   last-words : (i : ℕ) → i + 8 ≤ 16 → word 8 (slide (view h .prev) (view h .rest)) i ≡ word 8 (h .buffer) (h .waiting + i)
   unfolding slide
   last-words i k =
-      rw (waits, together)
+      rw (waits-within h size wide, together)
       (word-drop 8 (take (16 + h .waiting) (h .buffer)) (h .waiting) i ∙ word-take 8 (h .buffer) (16 + h .waiting) (h .waiting + i) (omega arith))
 
   module _ {v : ℕ} where
@@ -72,4 +61,4 @@ module _ (h : RapidStreamHasher) (size : length (h .buffer) ≡ 128) (wide : h .
         let none : h .waiting + 0 ≡ h .waiting = omega arith in
         let first : word 8 (slide (view h .prev) (view h .rest)) 0 ≡ word 8 (h .buffer) (h .waiting) = last-words 0 (omega arith) ∙ rw none in
         let second : word 8 (slide (view h .prev) (view h .rest)) 8 ≡ word 8 (h .buffer) (h .waiting + 8) = last-words 8 (omega arith) in
-        ev ∙ rw (counted, ne-eqb (h .count) 0 z, first, second, waits, laned, ea, eb, ex, ey, lent)
+        ev ∙ rw (counted, ne-eqb (h .count) 0 z, first, second, waits-within h size wide, laned, ea, eb, ex, ey, lent)

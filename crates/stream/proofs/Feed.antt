@@ -4,27 +4,18 @@ use mathlib.Core.Path.{_≡_, refl, _∙_, ap, sym}
 use mathlib.Core.Bool.{Bool}
 use mathlib.Core.List.{List, [], _∷_, _++_, append-nil}
 use native.Mathlib.Omega.{arith}
-use native.Mathlib.Nat.{lt-div-mul-add, mul-div-le, mul-suc}
+use native.Mathlib.Nat.{mul-suc}
 use lib.ListN.{length, take, drop, length-append, length-drop, take-append-drop}
 use lib.Seq.{append-snoc, length-take-le, take-add, drop-drop}
 use borrow.Author.Tests.{eq-eqb, ne-eqb}
 use Rattle.rapidhash.specs.Hash.{chunks, lanesAfter}
+use Rattle.rapidhash.proofs.Chunks.{chunks-before, chunks-left}
 use Rattle.stream.specs.Stream.{Stream, slide, mixedIn, joinedBy, push, feed}
 use Rattle.stream.proofs.Slide.{slide-none, slide-slide}
 
 -- one time more
 times-more : (w k : ℕ) → w * suc k ≡ w + w * k
 times-more w k = omega (arith, mul-suc w k)
-
--- a byte follows the chunks, if there is any
-pub chunks-before : (w n : ℕ) → w * chunks w n ≤ n - 1
-unfolding chunks
-chunks-before w n = mul-div-le (n - 1) w
-
--- and they leave no more than one of them has
-pub chunks-left : (w n : ℕ) → 0 < w → n - w * chunks w n ≤ w
-unfolding chunks
-chunks-left w n h = omega (arith, lt-div-mul-add {a = n - 1} {b = w} h)
 
 module _ (L : ℕ) (p : Bool) (sec : List ℕ) where
   -- where the bytes are cut does not matter

@@ -61,11 +61,15 @@ module _ (o : Settings) (t : Stream) where
         short = m;
       })
 
+-- in a whole buffer as many bytes wait as the state says, if they are not too many
+pub waits-within : (h : RapidStreamHasher) → length (h .buffer) ≡ 128 → h .waiting ≤ 112 → length (view h .rest) ≡ h .waiting
+unfolding view
+waits-within h size wide = length-take-le (h .waiting) (drop 16 (h .buffer)) (rw (length-drop, size) (omega arith))
+
 module _ (L : ℕ) (few : L ≤ 7) (h : RapidStreamHasher) (size : length (h .buffer) ≡ 128) (ok : sound L h ≡ true) where
   -- as many bytes wait as the state says
   pub waits : length (view h .rest) ≡ h .waiting
-  unfolding view
-  waits = length-take-le (h .waiting) (drop 16 (h .buffer)) (rw length-drop (omega (arith, sound-facts L h ok .within)))
+  waits = waits-within h size (omega (arith, sound-facts L h ok .within))
 
   -- a sound state holds a stream such as from an opening
   pub good-view : Good L (h .settings .secrets .seed) (view h)

@@ -13,17 +13,10 @@ use Rattle.rapidhash.specs.Hash.{chunks, mixedOf, reachedOf, longEnds, endsOf, 
 use Rattle.rapidhash.specs.declared.v3.seed.RapidSecrets.{RapidSecrets}
 use Rattle.rapidhash.proofs.Chunks.{chunks-more}
 use Rattle.rapidhash.proofs.Classes.{class-long}
+use Rattle.rapidhash.proofs.Words.{word-drop}
 use Rattle.stream.specs.Stream.{Stream, slide, opened, feed, streamEnds, streamHash}
 use Rattle.stream.proofs.Slide.{slide-slide, slide-long}
 use Rattle.stream.proofs.Feed.{feed-short, feed-chunks}
-
--- a word of what is left is a word further on
-pub word-drop : (n : ℕ) (s : List ℕ) (d i : ℕ) → word n (drop d s) i ≡ word n s (d + i)
-unfolding word
-word-drop zero s d i = refl
-word-drop (suc n) s d i =
-    let e : d + (i + n) ≡ d + i + n = omega arith in
-    rw (word-drop n s d i, getD-drop, e)
 
 -- what has gone by in two parts ends with the last 16 bytes
 last-bytes : (n : ℕ) (s : List ℕ) → 16 ≤ length s → slide (slide (replicate 16 0) (take n s)) (drop n s) ≡ drop (length s - 16) s

@@ -6,7 +6,7 @@ use lib.Dec.{leb}
 use lib.ListN.{length}
 use Rattle.rapidhash.specs.Choice.{pick}
 use Rattle.rapidhash.specs.Hash.{chunks, hashOf}
-use Rattle.stream.specs.State.{most, Said, said, Found, found, writeOf, finishOf, resetOf}
+use Rattle.stream.specs.State.{most, Said, said, Ended, ended, writeOf, finishOf, resetOf}
 use Rattle.stream.specs.declared.rapid_stream_hasher.Settings.{Settings}
 use Rattle.stream.specs.declared.rapid_stream_hasher.RapidStreamHasher.{RapidStreamHasher}
 use Rattle.stream.specs.declared.rapid_stream_hasher.Outcome.the-variants.{Took, TooLong}
@@ -21,7 +21,7 @@ pub data Call : Type 0 where
 -- what a call answers besides the state
 pub data Reply : Type 0 where
   wrote : Said → Reply
-  finished : Found → Reply
+  finished : Ended → Reply
   didReset : Reply
 
 -- what calls on states come to: the replies one after another, and the last state
@@ -63,6 +63,6 @@ onList L o bytes (write s ∷ cs) =
     (before (wrote (said (TooLong (most - length bytes)))) (onList L o bytes cs))
 onList L o bytes (finish ∷ cs) =
     before
-    (finished (found (Hash (hashOf L (o .avalanche) (o .protected) (o .secrets) bytes) (chunks (16 * L) (length bytes)))))
+    (finished (ended (Hash (hashOf L (o .avalanche) (o .protected) (o .secrets) bytes) (chunks (16 * L) (length bytes)))))
     (onList L o bytes cs)
 onList L o bytes (reset ∷ cs) = before didReset (onList L o [] cs)

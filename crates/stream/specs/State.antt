@@ -88,21 +88,21 @@ writeOf L h s =
     (record { state = h; says = said NotSound })
 
 -- what finish answers: a number of the table, the hash and the number of chunks mixed
-pub record Found : Type 0 where
+pub record Ended : Type 0 where
   pub number : ℕ
   pub hash : ℕ
   pub count : ℕ
 
 -- 0: the hash and the count; 1: not sound, hash 0 and count 0
-abbrev pub found : Finished → Found
-found (Hash v k) = record { number = 0; hash = v; count = k }
-found Unsound = record { number = 1; hash = 0; count = 0 }
+abbrev pub ended : Finished → Ended
+ended (Hash v k) = record { number = 0; hash = v; count = k }
+ended Unsound = record { number = 1; hash = 0; count = 0 }
 
 -- finish
-unfoldable pub finishOf : ℕ → RapidStreamHasher → Found
+unfoldable pub finishOf : ℕ → RapidStreamHasher → Ended
 finishOf L h =
     let o = h .settings in
-    pick (sound L h) (found (Hash (streamHash L (o .avalanche) (o .protected) (o .secrets) (view h)) (h .count))) (found Unsound)
+    pick (sound L h) (ended (Hash (streamHash L (o .avalanche) (o .protected) (o .secrets) (view h)) (h .count))) (ended Unsound)
 
 -- reset: the opening state of the same settings, whatever the state
 unfoldable pub resetOf : RapidStreamHasher → RapidStreamHasher

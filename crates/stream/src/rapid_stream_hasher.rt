@@ -9,7 +9,7 @@ ghost use Rattle.rapidhash.specs.Choice.{pick, allAre};
 ghost use Rattle.rapidhash.specs.Words.{word};
 ghost use Rattle.stream.specs.Stream.{feed, streamHash, slide};
 ghost use Rattle.stream.specs.State.{view, hold, openingOf, sofar, most, sound, taken, writeOf, finishOf, resetOf};
-ghost use Rattle.stream.specs.State.{answered, found};
+ghost use Rattle.stream.specs.State.{answered, ended};
 use rapidhash::util::read::Found;
 use rapidhash::util::read::all_zero;
 use rapidhash::util::read::read_u64;
@@ -101,7 +101,7 @@ impl RapidStreamHasher {
 
     // The hash of the bytes so far, and how many chunks were mixed. The state stays the caller's.
     pub fn finish(self) -> Finished
-        ensures { λ r. ⌜ found r ≡ finishOf 7 self ⌝ }
+        ensures { λ r. ⌜ ended r ≡ finishOf 7 self ⌝ }
     {
         if is_sound(self) {
             Finished::Hash(hash_of(self), self.count)
