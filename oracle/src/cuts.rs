@@ -12,10 +12,6 @@ use crate::words::number;
 /// Around the ends of the short path, of one chunk and of two, and two of nine chunks.
 const LENGTHS: [usize; 15] = [0, 1, 15, 16, 17, 111, 112, 113, 114, 223, 224, 225, 226, 999, 1000];
 
-/// All cuts into three of a longer message would be a million runs.
-const LONGEST_IN_FULL: usize = 226;
-const STEP: usize = 37;
-
 pub fn print(mut output: impl Write) -> Result<()> {
     let secrets = RapidSecrets::seed(0x0123456789abcdef);
     for length in LENGTHS {
@@ -88,9 +84,8 @@ impl<'a, const AVALANCHE: bool, const PROTECTED: bool> Cuts<'a, AVALANCHE, PROTE
 
     fn three_parts(&self, wanted: End) -> usize {
         let m = self.message;
-        let step = if m.len() <= LONGEST_IN_FULL { 1 } else { STEP };
         let end = |i: usize, j: usize| self.after(&[&m[..i], &m[i..j], &m[j..]]).end();
-        let with_first = |i| (i..=m.len()).step_by(step).filter(|&j| end(i, j) == wanted).count();
+        let with_first = |i| (i..=m.len()).filter(|&j| end(i, j) == wanted).count();
         (0..=m.len()).map(with_first).sum()
     }
 

@@ -69,7 +69,7 @@ fn counts(fresh: RapidStreamHasher, bytes: &[u8])
     io::write_all(STDOUT_FILENO, b" ");
     io::print_hex(STDOUT_FILENO, wanted.hash, 16);
     shown(b" ", wanted.count);
-    shown(b" two ", two_parts(fresh, bytes, wanted, 1));
+    shown(b" two ", two_parts(fresh, bytes, wanted));
     shown(b" three ", three_parts(fresh, bytes, wanted));
     shown(b" bytes ", byte_by_byte(fresh, bytes, wanted));
     shown(b" empty ", with_empty_writes(fresh, bytes, wanted));
@@ -133,16 +133,14 @@ fn in_two(start: RapidStreamHasher, bytes: &[u8], n: usize) -> RapidStreamHasher
     took(first, &bytes[n..])
 }
 
-// How many of the cuts into two parts end in what is wanted, of those whose first part is a multiple of `step` long.
-fn two_parts(start: RapidStreamHasher, bytes: &[u8], wanted: End, step: usize) -> u64
-    requires { ⌜ (length (now bytes) ≤ 1000) × (1 ≤ step) × (step ≤ 37) ⌝ }
-    ensures { λ r. ⌜ r ≤ 1037 ⌝ }
+// How many of the cuts into two parts end in what is wanted.
+fn two_parts(start: RapidStreamHasher, bytes: &[u8], wanted: End) -> u64
+    requires { ⌜ length (now bytes) ≤ 1000 ⌝ }
+    ensures { λ r. ⌜ r ≤ 1001 ⌝ }
 {
     let mut same = 0;
-    let mut i = 0;
-    while i <= bytes.len() {
+    for i in 0..=bytes.len() {
         same += ends_in(in_two(start, bytes, i), wanted);
-        i += step;
     }
     same
 }
@@ -154,16 +152,9 @@ fn three_parts(fresh: RapidStreamHasher, bytes: &[u8], wanted: End) -> u64
     let mut same = 0;
     for i in 0..=bytes.len() {
         let first = took(fresh, &bytes[0..i]);
-        same += two_parts(first, &bytes[i..], wanted, middle_step(bytes.len()));
+        same += two_parts(first, &bytes[i..], wanted);
     }
     same
-}
-
-// Of the two longest messages only every 37th length of the middle part is tried: all would be a million runs.
-fn middle_step(n: usize) -> usize
-    ensures { λ r. ⌜ (1 ≤ r) × (r ≤ 37) ⌝ }
-{
-    if n <= 226 { 1 } else { 37 }
 }
 
 fn byte_by_byte(fresh: RapidStreamHasher, bytes: &[u8], wanted: End) -> u64 {

@@ -6,7 +6,7 @@ use Rattle.cuts.proofs.three_parts.Statement.{statement}
 use Rattle.cuts.proofs.three_parts.Tie as tie
 
 abbrev Inv-loop : tie.InvT-loop
-Inv-loop fresh bytes wanted same₀ i₀ i-end same i = (i ≤ length bytes) × (same ≤ 1037 * i)
+Inv-loop fresh bytes wanted same₀ i₀ i-end same i = (i ≤ length bytes) × (same ≤ 1001 * i)
 
 abbrev μ-loop : tie.MeasureT-loop
 μ-loop fresh bytes wanted same₀ i₀ i-end same i = length bytes - i
@@ -25,7 +25,6 @@ three-parts-spec =
     (λ c. search needs)
     (λ c. search needs)
     (λ c. search needs)
-    (λ c κs. search needs)
     (λ c κs. search needs)
     (λ c. search needs)
     (λ c. search needs)
