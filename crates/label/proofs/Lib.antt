@@ -1,0 +1,11 @@
+pub mod Table
+pub mod Lookups
+pub mod HeaderLaws
+pub mod Standing
+pub mod Walking
+pub mod Parts
+pub mod ReadingLaws
+pub mod Listed
+pub mod FingerLaws
+pub mod Within
+pub mod FindLaws

@@ -1,0 +1,113 @@
+-- From field to field: the number of fields looked for does not matter once it is enough, so a walk goes on from its place alone.
+-- Assumes nothing.
+use Prim.Native.Nat.{ℕ, zero, suc, _+_, _-_, _≤_, _<_}
+use mathlib.Core.Path.{_≡_, refl, sym, _∙_, ap}
+use mathlib.Core.Bool.{true, false}
+use mathlib.Core.List.{List, [], _∷_}
+use native.Mathlib.Omega.{arith}
+use native.Mathlib.Decide.{decLt}
+use lib.ListN.{length}
+use borrow.Author.Tests.{lt-ltb, le-ltb, eq-eqb, ne-eqb}
+use Rattle.label.specs.Numbers.{toldLookup}
+use Rattle.label.specs.Label.{headerOf, Walked, ended, onward, walkFrom, walkOf, notListed, withTag}
+use Rattle.label.specs.declared.field.Refusal.{Refusal}
+use Rattle.label.specs.declared.field.Field.{Field}
+use Rattle.label.specs.declared.field.Lookup.{Lookup}
+use Rattle.label.specs.declared.field.Lookup.the-variants.{At, Refused}
+use Rattle.label.specs.declared.reading.Reading.{Reading}
+use Rattle.label.specs.declared.reading.Reading.the-variants.{Refused as Bad}
+use Rattle.label.proofs.Lookups.{lookup-apart}
+use Rattle.label.proofs.Standing.{Standing, field-stands, standing}
+
+-- two ways on that agree on the field at hand
+same-onward : (go on : Field → Walked) (l : Lookup) → ((f : Field) → l ≡ At f → go f ≡ on f) → onward go l ≡ onward on l
+unfolding onward
+same-onward go on (At f) h = rw (h f refl)
+same-onward go on (Refused r) h = refl
+
+module _ (s : List ℕ) where
+  -- at the end there is nothing more
+  no-more : (n at before : ℕ) → length s ≤ at → walkFrom n s at before ≡ ended
+  unfolding walkFrom
+  no-more zero at before h = refl
+  no-more (suc n) at before h = rw (le-ltb at (length s) h)
+
+  one-more : (n at before : ℕ) → at < length s
+      → walkFrom (suc n) s at before ≡ onward (λ f. walkFrom n s (f .start + f .length) (f .tag)) (headerOf s at before)
+  unfolding walkFrom
+  one-more n at before h = rw (lt-ltb at (length s) h)
+
+  -- if they agree from the field's end on, two walks agree
+  alike : (n m at before : ℕ)
+      → ((f : Field) → headerOf s at before ≡ At f → walkFrom n s (f .start + f .length) (f .tag) ≡ walkFrom m s (f .start + f .length) (f .tag))
+      → walkFrom (suc n) s at before ≡ walkFrom (suc m) s at before
+  alike n m at before later = go (decLt at (length s))
+    where
+      go : Dec (at < length s) → walkFrom (suc n) s at before ≡ walkFrom (suc m) s at before
+      go (yes l) = one-more n at before l ∙ same-onward _ _ (headerOf s at before) later ∙ sym (one-more m at before l)
+      go (no l) = no-more (suc n) at before (omega arith) ∙ sym (no-more (suc m) at before (omega arith))
+
+  -- as many as there can be are as good as more
+  enough : (n m at before : ℕ) → length s ≤ at + n → length s ≤ at + m → walkFrom n s at before ≡ walkFrom m s at before
+  enough zero m at before h k = no-more zero at before (omega arith) ∙ sym (no-more m at before (omega arith))
+  enough (suc n) zero at before h k = no-more (suc n) at before (omega arith) ∙ sym (no-more zero at before (omega arith))
+  enough (suc n) (suc m) at before h k =
+      alike n m at before
+      (λ f e.
+      let st = standing s at before (field-stands s at before e) in
+      enough n m (f .start + f .length) (f .tag) (omega arith) (omega arith))
+
+  -- the fields from a place on
+  pub rest : ℕ → ℕ → Walked
+  rest at before = walkFrom (length s) s at before
+
+  pub walk-is-rest : walkOf s ≡ rest 0 0
+  unfolding walkOf rest
+  walk-is-rest = refl
+
+  pub rest-done : (at before : ℕ) → length s ≤ at → rest at before ≡ ended
+  unfolding rest
+  rest-done at before h = no-more (length s) at before h
+
+  pub rest-next : (at before : ℕ) → at < length s → rest at before ≡ onward (λ f. rest (f .start + f .length) (f .tag)) (headerOf s at before)
+  unfolding rest
+  rest-next at before h =
+      enough (length s) (suc (length s)) at before (omega arith) (omega arith) ∙ one-more (length s) at before h
+
+  -- a field, and the rest from its end on
+  pub rest-field : (at before : ℕ) (f : Field) → at < length s → headerOf s at before ≡ At f
+      → rest at before ≡ record { fields = f ∷ rest (f .start + f .length) (f .tag) .fields; ends = rest (f .start + f .length) (f .tag) .ends }
+  unfolding onward
+  rest-field at before f h e = rest-next at before h ∙ rw e
+
+  -- or a refusal
+  pub rest-refused : (at before : ℕ) (r : Refusal) → at < length s → headerOf s at before ≡ Refused r → rest at before ≡ record { fields = []; ends = Bad r }
+  unfolding onward
+  rest-refused at before r h e = rest-next at before h ∙ rw e
+
+-- what a call of `header` that was matched on tells
+pub looked : {l m n : Lookup} → toldLookup l ≡ toldLookup n → l ≡ m → n ≡ m
+looked {l} {m} {n} e k = sym (lookup-apart l n e) ∙ k
+
+module _ (s : List ℕ) (at before : ℕ) {f : Field} (more : at < length s) (e : headerOf s at before ≡ At f) where
+  -- how the fields end after a field, and what it holds for a tag
+  pub ends-after : rest s at before .ends ≡ rest s (f .start + f .length) (f .tag) .ends
+  ends-after = ap (λ (w : Walked). w .ends) (rest-field s at before f more e)
+
+  pub tag-here : (t : ℕ) → f .tag ≡ t → withTag t (rest s at before .fields) ≡ At f
+  unfolding withTag
+  tag-here t h = rw (rest-field s at before f more e, eq-eqb (f .tag) t h)
+
+  pub tag-after : (t : ℕ) → (f .tag ≡ t → ⊥) → withTag t (rest s at before .fields) ≡ withTag t (rest s (f .start + f .length) (f .tag) .fields)
+  unfolding withTag
+  tag-after t h = rw (rest-field s at before f more e, ne-eqb (f .tag) t h)
+
+-- and of a field that is found so
+pub met : (s : List ℕ) (at before : ℕ) {l : Lookup} {f : Field} → toldLookup l ≡ toldLookup (headerOf s at before) → l ≡ At f
+    → Standing s at before f
+met s at before e k = standing s at before (field-stands s at before (looked e k))
+
+-- where the fields end no tag is there
+pub tag-none : (t : ℕ) {w : Walked} (r : Reading) → w ≡ record { fields = []; ends = r } → withTag t (w .fields) ≡ notListed
+unfolding withTag
+tag-none t r e = rw e

@@ -1,0 +1,19 @@
+-- As the reading says. Assumes nothing.
+use Rattle.label.proofs.FingerLaws.{good-short, print-good, print-refused}
+use borrow.Author.Needs.{needs}
+use Rattle.label.proofs.fingerprint.fingerprint.Statement.{statement}
+use Rattle.label.proofs.fingerprint.fingerprint.Tie as tie
+
+hash-of-values-requires : tie.Need-hash-of-values-requires
+hash-of-values-requires c κs = good-short _ (c .before .before .read .ensures) (c .enum-told .given .1)
+
+returns : tie.Need-returns
+returns c = print-good _ _ (c .before .before .before .read .ensures) (c .before .enum-told .given .1) (c .hash-of-values .ensures)
+
+returns-2 : tie.Need-returns-2
+returns-2 c = print-refused _ _ (c .before .before .before .read .ensures) (c .before .reading .given .1)
+
+pub fingerprint-spec : {M : Type 1} → statement M
+fingerprint-spec =
+    tie.close
+    (tie.spec (λ c κs. search needs) (λ c. search needs) hash-of-values-requires (λ c. search needs) returns returns-2)

@@ -1,0 +1,150 @@
+-- The label record (the scope's "Label record"): what stands at a place, the fields of a record, reading, finding and the fingerprint.
+-- Assumes nothing.
+use Prim.Native.Nat.{ℕ, zero, suc, _+_}
+use mathlib.Core.Bool.{Bool, true, false}
+use mathlib.Core.List.{List, [], _∷_, _++_}
+use mathlib.Core.Path.{_≡_}
+use denote.Ref.{RefT, ptr, now}
+use lib.Dec.{eqb, leb, ltb}
+use lib.ListN.{length, getD, take, drop}
+use Rattle.rapidhash.specs.Choice.{pick, every}
+use Rattle.rapidhash.specs.Words.{word}
+use Rattle.rapidhash.specs.Hash.{hashOf}
+use Rattle.rapidhash.specs.declared.v3.seed.RapidSecrets.{RapidSecrets}
+use Rattle.label.specs.declared.field.Why.{Why}
+use Rattle.label.specs.declared.field.Why.the-variants.{TooLong, Cut, NoSuchTag, NotAbove, BadLength, Missing, NotListed}
+use Rattle.label.specs.declared.field.Refusal.{Refusal}
+use Rattle.label.specs.declared.field.Field.{Field}
+use Rattle.label.specs.declared.field.Lookup.{Lookup}
+use Rattle.label.specs.declared.field.Lookup.the-variants.{At, Refused}
+use Rattle.label.specs.declared.field.Lengths.{Lengths}
+use Rattle.label.specs.declared.reading.Reading.{Reading}
+use Rattle.label.specs.declared.reading.Reading.the-variants.{Good, Refused as Bad}
+use Rattle.label.specs.declared.fingerprint.Printed.{Printed}
+use Rattle.label.specs.declared.fingerprint.Printed.the-variants.{Print, Refused as NoPrint}
+use Rattle.label.specs.declared.field.Lengths.the-variants.{Between, NoField}
+
+-- the table: how long a value may be under each tag; there is no field with tag 0 or 5 to 127
+unfoldable pub table : ℕ → Lengths
+table t =
+    pick (eqb t 1) (Between 1 32)
+    (pick (eqb t 2) (Between 0 1024)
+    (pick (eqb t 3) (Between 1 64)
+    (pick (eqb t 4) (Between 0 4096)
+    (pick (leb 128 t) (Between 0 65535) NoField))))
+
+-- a look that is refused at a place
+abbrev pub refusedAt : Why → ℕ → Lookup
+refusedAt why place = Refused (record { why = why; place = place })
+
+-- of a tag that the table has, at a place: it must be above the one before, its length within the limits, and its value within the record
+unfoldable pub fieldOf : List ℕ → ℕ → ℕ → Lengths → Lookup
+fieldOf s at before NoField = refusedAt NoSuchTag at
+fieldOf s at before (Between least most) =
+    let tag = getD s at 0 in
+    let n = word 2 s (at + 1) in
+    pick (ltb before tag)
+    (pick (every (leb least n ∷ leb n most ∷ []))
+    (pick (leb (at + 3 + n) (length s)) (At (record { tag = tag; place = at; start = at + 3; length = n })) (refusedAt Cut at))
+    (refusedAt BadLength at))
+    (refusedAt NotAbove at)
+
+-- what stands at a place, where the tag before is given (0 where there is none): three bytes at least, and then a field
+unfoldable pub headerOf : List ℕ → ℕ → ℕ → Lookup
+headerOf s at before = pick (leb (at + 3) (length s)) (fieldOf s at before (table (getD s at 0))) (refusedAt Cut at)
+
+-- a reading that is refused at a place
+abbrev pub badAt : Why → ℕ → Reading
+badAt why place = Bad (record { why = why; place = place })
+
+-- the fields of a record as far as they can be read, and how they end: at the record's end, or by a refusal
+pub record Walked : Type 0 where
+  pub fields : List Field
+  pub ends : Reading
+
+-- the record's end
+abbrev pub ended : Walked
+ended = record { fields = []; ends = Good }
+
+-- a field before others, which come from its end on; or a refusal, and nothing more
+unfoldable pub onward : (Field → Walked) → Lookup → Walked
+onward next (At f) = record { fields = f ∷ next f .fields; ends = next f .ends }
+onward next (Refused r) = record { fields = []; ends = Bad r }
+
+-- the fields from a place on, after a tag, at most n of them
+unfoldable pub walkFrom : ℕ → List ℕ → ℕ → ℕ → Walked
+walkFrom zero s at before = ended
+walkFrom (suc n) s at before =
+    pick (ltb at (length s)) (onward (λ f. walkFrom n s (f .start + f .length) (f .tag)) (headerOf s at before)) ended
+
+-- the fields of a record: it has fewer than bytes
+unfoldable pub walkOf : List ℕ → Walked
+walkOf s = walkFrom (length s) s 0 0
+
+-- none of the tags is there
+abbrev pub notListed : Lookup
+notListed = refusedAt NotListed 0
+
+-- the field with a tag
+unfoldable pub withTag : ℕ → List Field → Lookup
+withTag t [] = notListed
+withTag t (f ∷ fs) = pick (eqb (f .tag) t) (At f) (withTag t fs)
+
+-- whether it is there
+abbrev pub isField : Lookup → Bool
+isField (At f) = true
+isField (Refused r) = false
+
+-- a record whose fields end well must have the required ones
+unfoldable pub complete : ℕ → List Field → Reading → Reading
+complete n fs Good = pick (every (isField (withTag 1 fs) ∷ isField (withTag 2 fs) ∷ [])) Good (badAt Missing n)
+complete n fs (Bad r) = Bad r
+
+-- reading: not too long, then each field in turn, then the required ones
+unfoldable pub readOf : List ℕ → Reading
+readOf s = pick (leb (length s) 8192) (complete (length s) (walkOf s .fields) (walkOf s .ends)) (badAt TooLong 0)
+
+-- the first tag of a list that a record has
+unfoldable pub firstListed : List Field → List ℕ → Lookup
+firstListed fs [] = notListed
+firstListed fs (t ∷ ts) = pick (isField (withTag t fs)) (withTag t fs) (firstListed fs ts)
+
+-- finding: the record's own refusal first
+unfoldable pub foundIn : List ℕ → List ℕ → Reading → Lookup
+foundIn s tags Good = firstListed (walkOf s .fields) tags
+foundIn s tags (Bad r) = Refused r
+
+unfoldable pub findOf : List ℕ → List ℕ → Lookup
+findOf s tags = foundIn s tags (readOf s)
+
+-- where the value stands that a look gives, and how long it is: nothing where it is refused
+abbrev pub startOf : Lookup → ℕ
+startOf (At f) = f .start
+startOf (Refused r) = 0
+
+abbrev pub lengthOf : Lookup → ℕ
+lengthOf (At f) = f .length
+lengthOf (Refused r) = 0
+
+-- the value's bytes
+unfoldable pub valueOf : List ℕ → Lookup → List ℕ
+valueOf s l = take (lengthOf l) (drop (startOf l) s)
+
+-- a part of a lent record that is the value which a look gives: its bytes, and the record's own memory at that place
+pub record Part (s : RefT (List ℕ)) (l : Lookup) (r : RefT (List ℕ)) : Type 0 where
+  pub bytes : now r ≡ valueOf (now s) l
+  pub memory : ptr r ≡ (ptr s .0, ptr s .1 + startOf l)
+
+-- the bytes that a record's fingerprint is of: the values of tags 1 to 4 that are there, one after another
+unfoldable pub hashedOf : List ℕ → List ℕ
+hashedOf s =
+    let fs = walkOf s .fields in
+    valueOf s (withTag 1 fs) ++ valueOf s (withTag 2 fs) ++ valueOf s (withTag 3 fs) ++ valueOf s (withTag 4 fs)
+
+-- the fingerprint of a record: their full hash, avalanche on, protected off; or the reading's refusal
+unfoldable pub printOf : RapidSecrets → List ℕ → Reading → Printed
+printOf x s Good = Print (hashOf 7 true false x (hashedOf s))
+printOf x s (Bad r) = NoPrint r
+
+unfoldable pub fingerprintOf : RapidSecrets → List ℕ → Printed
+fingerprintOf x s = printOf x s (readOf s)

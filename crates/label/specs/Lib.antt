@@ -1,0 +1,3 @@
+pub mod Label
+pub mod Numbers
+pub mod Rows

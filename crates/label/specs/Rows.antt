@@ -1,0 +1,53 @@
+-- The table of numbers, row by row (the scope's "Numbers that come back"), with its order: what stands at a place, and what reading a record
+-- comes to. Beside the definitions that compute; that both say the same is proved. Assumes nothing.
+use Prim.Native.Nat.{ℕ, _+_, _≤_, _<_}
+use mathlib.Core.Path.{_≡_}
+use mathlib.Core.Bool.{true, false}
+use mathlib.Core.List.{List, [], _∷_, _++_}
+use lib.ListN.{length, getD}
+use Rattle.rapidhash.specs.Words.{word}
+use Rattle.label.specs.Label.{table, refusedAt, badAt, withTag, isField}
+use Rattle.label.specs.declared.field.Why.the-variants.{TooLong, Cut, NoSuchTag, NotAbove, BadLength, Missing}
+use Rattle.label.specs.declared.field.Refusal.{Refusal}
+use Rattle.label.specs.declared.field.Field.{Field}
+use Rattle.label.specs.declared.field.Lookup.{Lookup}
+use Rattle.label.specs.declared.field.Lookup.the-variants.{At, Refused}
+use Rattle.label.specs.declared.field.Lengths.the-variants.{Between, NoField}
+use Rattle.label.specs.declared.reading.Reading.{Reading}
+use Rattle.label.specs.declared.reading.Reading.the-variants.{Good, Refused as Bad}
+
+-- what stands at a place of s, after a tag. 6: fewer than 3 bytes are left. 7: else the table has no such tag. 8: else the tag is not above the
+-- one before. 9: else the length is outside the limits. 6: else the value ends past the record. Else it is a field
+pub data Stands (s : List ℕ) (at before : ℕ) : Lookup → Type 0 where
+  headerCut : length s < at + 3 → Stands s at before (refusedAt Cut at)
+  noSuchTag : at + 3 ≤ length s → table (getD s at 0) ≡ NoField → Stands s at before (refusedAt NoSuchTag at)
+  notAbove : {least most : ℕ} → at + 3 ≤ length s → table (getD s at 0) ≡ Between least most → getD s at 0 ≤ before
+      → Stands s at before (refusedAt NotAbove at)
+  tooShort : {least most : ℕ} → at + 3 ≤ length s → table (getD s at 0) ≡ Between least most → before < getD s at 0
+      → word 2 s (at + 1) < least → Stands s at before (refusedAt BadLength at)
+  tooLong : {least most : ℕ} → at + 3 ≤ length s → table (getD s at 0) ≡ Between least most → before < getD s at 0
+      → least ≤ word 2 s (at + 1) → most < word 2 s (at + 1) → Stands s at before (refusedAt BadLength at)
+  valueCut : {least most : ℕ} → at + 3 ≤ length s → table (getD s at 0) ≡ Between least most → before < getD s at 0
+      → least ≤ word 2 s (at + 1) → word 2 s (at + 1) ≤ most → length s < at + 3 + word 2 s (at + 1) → Stands s at before (refusedAt Cut at)
+  field : {least most : ℕ} → at + 3 ≤ length s → table (getD s at 0) ≡ Between least most → before < getD s at 0
+      → least ≤ word 2 s (at + 1) → word 2 s (at + 1) ≤ most → at + 3 + word 2 s (at + 1) ≤ length s
+      → Stands s at before (At (record { tag = getD s at 0; place = at; start = at + 3; length = word 2 s (at + 1) }))
+
+-- a place that fields lead to from the record's first byte, one after another, with the last one's tag and all of them
+pub data Reached (s : List ℕ) : ℕ → ℕ → List Field → Type 0 where
+  start : Reached s 0 0 []
+  next : {at before : ℕ} {fs : List Field} {f : Field} → Reached s at before fs → Stands s at before (At f)
+      → Reached s (f .start + f .length) (f .tag) (fs ++ (f ∷ []))
+
+-- what reading comes to. 5: over 8,192 bytes. 6 to 9: else at the first place, before the end, where no field stands. 10: else a required tag is
+-- missing. Else the record is good
+pub data Reads (s : List ℕ) : Reading → Type 0 where
+  overlong : 8192 < length s → Reads s (badAt TooLong 0)
+  unreadable : {at before : ℕ} {fs : List Field} {r : Refusal} → length s ≤ 8192 → Reached s at before fs → at < length s
+      → Stands s at before (Refused r) → Reads s (Bad r)
+  missingFirst : {before : ℕ} {fs : List Field} → length s ≤ 8192 → Reached s (length s) before fs → isField (withTag 1 fs) ≡ false
+      → Reads s (badAt Missing (length s))
+  missingSecond : {before : ℕ} {fs : List Field} → length s ≤ 8192 → Reached s (length s) before fs → isField (withTag 2 fs) ≡ false
+      → Reads s (badAt Missing (length s))
+  good : {before : ℕ} {fs : List Field} → length s ≤ 8192 → Reached s (length s) before fs → isField (withTag 1 fs) ≡ true
+      → isField (withTag 2 fs) ≡ true → Reads s Good

@@ -1,0 +1,107 @@
+// Reading a label record: every field in turn, and then whether the required ones are there.
+ghost use mathlib.Core.Path.{_≡_};
+ghost use Rattle.label.specs.Numbers.{toldReading};
+ghost use Rattle.label.specs.Label.{badAt, walkOf, notListed, withTag, isField, readOf};
+use crate::field::Lookup;
+use crate::field::Refusal;
+use crate::field::Why;
+use crate::field::header;
+
+// The most bytes that a record may have.
+const MOST: usize = 8192;
+
+// What reading finds: a good record, or why not.
+pub enum Reading {
+    Good,
+    Refused(Refusal),
+}
+
+// Whether a record is good.
+pub fn read(record: &[u8]) -> Reading
+    ensures { λ r. ⌜ toldReading r ≡ toldReading (readOf (now («record» .entry))) ⌝ }
+{
+    if MOST < record.len() {
+        return refused(Why::TooLong, 0);
+    }
+    let ends = walk(record);
+    match ends {
+        Reading::Refused(r) => Reading::Refused(r),
+        Reading::Good => {
+            if !has(record, 1) {
+                return refused(Why::Missing, record.len());
+            }
+            if !has(record, 2) {
+                return refused(Why::Missing, record.len());
+            }
+            Reading::Good
+        }
+    }
+}
+
+fn refused(why: Why, place: usize) -> Reading
+    ensures { λ r. ⌜ r ≡ badAt why place ⌝ }
+{
+    Reading::Refused(Refusal { why, place })
+}
+
+// How a record's fields end: at its last byte, or at the first that is refused.
+fn walk(record: &[u8]) -> Reading
+    ensures { λ r. ⌜ r ≡ walkOf (now («record» .entry)) .ends ⌝ }
+{
+    let mut at = 0;
+    let mut before = 0;
+    while at < record.len() {
+        let found = header(record, at, before);
+        match found {
+            Lookup::At(f) => {
+                at = f.start + f.length;
+                before = f.tag;
+            }
+            Lookup::Refused(r) => return Reading::Refused(r),
+        }
+    }
+    Reading::Good
+}
+
+// The field with a tag, of those that can be read.
+pub(crate) fn field_with(record: &[u8], tag: u8) -> Lookup
+    ensures { λ r. ⌜ r ≡ withTag tag (walkOf (now («record» .entry)) .fields) ⌝ }
+{
+    let mut at = 0;
+    let mut before = 0;
+    while at < record.len() {
+        let found = header(record, at, before);
+        match found {
+            Lookup::At(f) => {
+                if f.tag == tag {
+                    return Lookup::At(f);
+                }
+                at = f.start + f.length;
+                before = f.tag;
+            }
+            Lookup::Refused(_) => return not_listed(),
+        }
+    }
+    not_listed()
+}
+
+// Whether a field is there.
+fn has(record: &[u8], tag: u8) -> bool
+    ensures { λ r. ⌜ r ≡ isField (withTag tag (walkOf (now («record» .entry)) .fields)) ⌝ }
+{
+    let found = field_with(record, tag);
+    match found {
+        Lookup::At(_) => true,
+        Lookup::Refused(_) => false,
+    }
+}
+
+// That no field is there.
+pub(crate) fn not_listed() -> Lookup
+    ensures { λ r. ⌜ r ≡ notListed ⌝ }
+{
+    Lookup::Refused(Refusal {
+        why: Why::NotListed,
+        place: 0,
+    })
+}
