@@ -9,3 +9,8 @@ pub mod Listed
 pub mod FingerLaws
 pub mod Within
 pub mod FindLaws
+pub mod Refusals
+pub mod Written
+pub mod GoodExactly
+pub mod Finds
+pub mod Demand1

@@ -75,7 +75,24 @@ pub record Standing (s : List ℕ) (at before : ℕ) (f : Field) : Type 0 where
   pub size : f .length ≡ word 2 s (at + 1)
   pub above : before < f .tag
   pub within : f .start + f .length ≤ length s
+  pub least : ℕ
+  pub most : ℕ
+  pub row : table (f .tag) ≡ Between least most
+  pub enough : least ≤ f .length
+  pub fits : f .length ≤ most
 
 pub standing : (s : List ℕ) (at before : ℕ) {f : Field} → Stands s at before (At f) → Standing s at before f
-standing s at before (field w k a e f h) =
-    record { tag = refl; place = refl; start = refl; size = refl; above = a; within = h }
+standing s at before (field {least} {most} w k a e f h) =
+    record {
+      tag = refl;
+      place = refl;
+      start = refl;
+      size = refl;
+      above = a;
+      within = h;
+      least = least;
+      most = most;
+      row = k;
+      enough = e;
+      fits = f;
+    }

@@ -1,3 +1,4 @@
 pub mod Label
 pub mod Numbers
 pub mod Rows
+pub mod Good

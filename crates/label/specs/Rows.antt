@@ -6,7 +6,7 @@ use mathlib.Core.Bool.{true, false}
 use mathlib.Core.List.{List, [], _∷_, _++_}
 use lib.ListN.{length, getD}
 use Rattle.rapidhash.specs.Words.{word}
-use Rattle.label.specs.Label.{table, refusedAt, badAt, withTag, isField}
+use Rattle.label.specs.Label.{table, refusedAt, badAt, walkOf, notListed, withTag, isField}
 use Rattle.label.specs.declared.field.Why.the-variants.{TooLong, Cut, NoSuchTag, NotAbove, BadLength, Missing}
 use Rattle.label.specs.declared.field.Refusal.{Refusal}
 use Rattle.label.specs.declared.field.Field.{Field}
@@ -51,3 +51,15 @@ pub data Reads (s : List ℕ) : Reading → Type 0 where
       → Reads s (badAt Missing (length s))
   good : {before : ℕ} {fs : List Field} → length s ≤ 8192 → Reached s (length s) before fs → isField (withTag 1 fs) ≡ true
       → isField (withTag 2 fs) ≡ true → Reads s Good
+
+-- no tag of a list is among the fields
+pub data NoneListed (fs : List Field) : List ℕ → Type 0 where
+  empty : NoneListed fs []
+  absent : {t : ℕ} {ts : List ℕ} → isField (withTag t fs) ≡ false → NoneListed fs ts → NoneListed fs (t ∷ ts)
+
+-- what finding comes to. 5 to 10: as reading refuses. 11: else no tag of the list is there. Else the field of the first tag that is there
+pub data Finds (s tags : List ℕ) : Lookup → Type 0 where
+  badRecord : {r : Refusal} → Reads s (Bad r) → Finds s tags (Refused r)
+  noneThere : Reads s Good → NoneListed (walkOf s .fields) tags → Finds s tags notListed
+  found : (earlier : List ℕ) (t : ℕ) (later : List ℕ) {f : Field} → Reads s Good → tags ≡ earlier ++ (t ∷ later) → NoneListed (walkOf s .fields) earlier
+      → withTag t (walkOf s .fields) ≡ At f → Finds s tags (At f)
