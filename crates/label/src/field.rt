@@ -4,7 +4,7 @@ ghost use mathlib.Core.Path.{_≡_};
 ghost use Prim.Native.Nat.{_+_, _-_, _<_, _≤_};
 ghost use lib.ListN.{length};
 ghost use Rattle.rapidhash.specs.Words.{word};
-ghost use Rattle.label.specs.Numbers.{toldLookup};
+ghost use Rattle.label.specs.Numbers.{numberOf, toldLookup};
 ghost use Rattle.label.specs.Label.{table, refusedAt, headerOf};
 
 // Why a record, or a search in it, is refused.
@@ -16,6 +16,23 @@ pub enum Why {
     BadLength,
     Missing,
     NotListed,
+}
+
+impl Why {
+    // The number by which a refusal is known outside.
+    pub fn number(self) -> u64
+        ensures { λ r. ⌜ r ≡ numberOf self ⌝ }
+    {
+        match self {
+            Why::TooLong => 5,
+            Why::Cut => 6,
+            Why::NoSuchTag => 7,
+            Why::NotAbove => 8,
+            Why::BadLength => 9,
+            Why::Missing => 10,
+            Why::NotListed => 11,
+        }
+    }
 }
 
 // A refusal, and the place in the record that it is about.
