@@ -11,17 +11,16 @@ use lib.Seq.{drop-length}
 use borrow.Author.Tests.{eq-eqb, ne-eqb, eqb-true}
 use Rattle.rapidhash.specs.Choice.{pick}
 use Rattle.rapidhash.specs.Words.{word}
-use Rattle.label.specs.Label.{table, headerOf, Walked, walkOf, withTag, isField, readOf, valueOf}
+use Rattle.label.specs.Label.{table, headerOf, Walked, walkOf, withTag, isField, isGood, readOf, valueOf}
 use Rattle.label.specs.Rows.{Stands, field, Reached, start, next, Reads, good}
 use Rattle.label.specs.Good.{Plain, written, joined, Ascending, none, above, InTable, none as no-fields, sized, Present, here, later, GoodRecord, plain}
 use Rattle.label.specs.declared.field.Field.{Field}
 use Rattle.label.specs.declared.field.Lookup.the-variants.{At}
-use Rattle.label.specs.declared.field.Lengths.the-variants.{Between}
 use Rattle.label.specs.declared.reading.Reading.the-variants.{Good}
 use Rattle.label.proofs.HeaderLaws.{header-field}
 use Rattle.label.proofs.Standing.{stands-read, standing}
 use Rattle.label.proofs.Walking.{rest, walk-is-rest, rest-done, rest-field}
-use Rattle.label.proofs.ReadingLaws.{read-good}
+use Rattle.label.proofs.ReadingLaws.{read-good, as-second}
 use Rattle.label.proofs.Refusals.{exactly, all-walked}
 use Rattle.label.proofs.Written.{Bytes, value-length, stands-written, written-within, written-tag, written-length, written-value, written-rest}
 
@@ -63,7 +62,7 @@ module _ (s : List ℕ) where
       record {
         joins = stands-written s at before bytes h ∙ rw (d .joins);
         ascends = above (h .above) (d .ascends);
-        lengths = sized {p = plain s f} (h .row) (rw n (h .enough)) (rw n (h .fits)) (d .lengths);
+        lengths = sized {p = plain s f} (h .known) (rw n (h .enough)) (rw n (h .fits)) (d .lengths);
       }
 
   -- and so are all that lead to a place
@@ -90,14 +89,14 @@ module _ (s : List ℕ) where
           → (drop (at + 3 + word 2 s (at + 1)) s ≡ joined ps → Ascending (getD s at 0) ps → InTable ps
           → (rest s (at + 3 + word 2 s (at + 1)) (getD s at 0) .ends ≡ Good) × (map (plain s) (rest s (at + 3 + word 2 s (at + 1)) (getD s at 0) .fields) ≡ ps))
           → (rest s at before .ends ≡ Good) × (map (plain s) (rest s at before .fields) ≡ p ∷ ps)
-      go (above a later-tags) (sized {least} {most} row enough fits later-lengths) further =
+      go (above a later-tags) (sized known-tag enough fits later-lengths) further =
           let e : drop at s ≡ written p ++ joined ps = d .joins in
           let tag = written-tag s at p (joined ps) e in
           let n = written-length s at p (joined ps) e in
           let w = written-within s at p (joined ps) e in
-          let known : table (getD s at 0) ≡ Between least most = rw tag row in
+          let known : table (getD s at 0) .known ≡ true = rw tag known-tag in
           let stands : headerOf s at before ≡ At f =
-          header-field s at before (omega arith) known (rw tag a) (rw n enough) (rw n fits) refl (rw n w) in
+          header-field s at before (omega arith) known (rw tag a) (rw (tag, n) enough) (rw (tag, n) fits) refl (rw n w) in
           let onward = rest-field s at before f (omega arith) stands in
           let is : plain s f ≡ p = rw (tag, n, written-value s at p (joined ps) e) in
           let rest-is = further (rw n (written-rest s at p (joined ps) e)) (rw tag later-tags) later-lengths in
@@ -131,4 +130,4 @@ module _ (s : List ℕ) where
       let fields : map (plain s) (walkOf s .fields) ≡ ps = rw (walk-is-rest s) (back .1) in
       let one = present-found s 1 (walkOf s .fields) (rw fields (g .first)) in
       let two = present-found s 2 (walkOf s .fields) (rw fields (g .second)) in
-      (read-good s (g .short) ends one two, fields)
+      (read-good s (g .short) (ap isGood ends) (as-second (walkOf s .fields) one two), fields)

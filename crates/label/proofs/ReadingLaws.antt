@@ -2,11 +2,11 @@
 use Prim.Native.Nat.{ℕ, _≤_, _<_}
 use mathlib.Core.Path.{_≡_, refl, sym, _∙_, ap}
 use mathlib.Core.Bool.{Bool, true, false}
-use mathlib.Core.List.{List}
+use mathlib.Core.List.{List, [], _∷_}
 use lib.ListN.{length}
 use borrow.Author.Tests.{le-leb, lt-leb}
-use Rattle.label.specs.Numbers.{toldReading}
-use Rattle.label.specs.Label.{badAt, walkOf, withTag, isField, complete, readOf}
+use Rattle.rapidhash.specs.Choice.{every}
+use Rattle.label.specs.Label.{badAt, walkOf, withTag, isField, isGood, complete, readOf}
 use Rattle.label.specs.declared.field.Why.the-variants.{TooLong, Missing}
 use Rattle.label.specs.declared.field.Refusal.{Refusal}
 use Rattle.label.specs.declared.field.Field.{Field}
@@ -28,25 +28,29 @@ module _ (s : List ℕ) where
   read-too-long h = rw (lt-leb (length s) 8192 h)
 
   module _ (short : length s ≤ 8192) where
-    -- not too long: as the fields end
-    reads : readOf s ≡ complete (length s) (walkOf s .fields) (walkOf s .ends)
+    pub read-ends : isGood (walkOf s .ends) ≡ false → readOf s ≡ walkOf s .ends
     unfolding readOf
-    reads = rw (le-leb (length s) 8192 short)
+    read-ends e = rw (le-leb (length s) 8192 short, e)
 
     pub read-bad : {r : Refusal} → walkOf s .ends ≡ Bad r → readOf s ≡ Bad r
-    unfolding complete
-    read-bad e = reads ∙ rw e
+    read-bad e = read-ends (ap isGood e) ∙ e
 
-    module _ (whole : walkOf s .ends ≡ Good) where
-      pub read-first-missing : isField (withTag 1 (walkOf s .fields)) ≡ false → readOf s ≡ badAt Missing (length s)
-      unfolding complete
-      read-first-missing e = reads ∙ rw (whole, e)
+    module _ (readable : isGood (walkOf s .ends) ≡ true) where
+      pub read-missing : complete (walkOf s .fields) ≡ false → readOf s ≡ badAt Missing (length s)
+      unfolding readOf
+      read-missing e = rw (le-leb (length s) 8192 short, readable, e)
 
-      module _ (one : isField (withTag 1 (walkOf s .fields)) ≡ true) where
-        pub read-second-missing : isField (withTag 2 (walkOf s .fields)) ≡ false → readOf s ≡ badAt Missing (length s)
-        unfolding complete
-        read-second-missing e = reads ∙ rw (whole, one, e)
+      pub read-good : complete (walkOf s .fields) ≡ true → readOf s ≡ Good
+      unfolding readOf
+      read-good e = rw (le-leb (length s) 8192 short, readable, e)
 
-        pub read-good : isField (withTag 2 (walkOf s .fields)) ≡ true → readOf s ≡ Good
-        unfolding complete
-        read-good e = reads ∙ rw (whole, one, e)
+-- one tag missing is enough, and both are needed
+pub lacks-first : (fs : List Field) → isField (withTag 1 fs) ≡ false → complete fs ≡ false
+lacks-first fs e = rw e
+
+pub as-second : (fs : List Field) {b : Bool} → isField (withTag 1 fs) ≡ true → isField (withTag 2 fs) ≡ b → complete fs ≡ b
+as-second fs {b} o t = rw o (go b t)
+  where
+    go : (b : Bool) → isField (withTag 2 fs) ≡ b → every (isField (withTag 2 fs) ∷ []) ≡ b
+    go true e = rw e
+    go false e = rw e

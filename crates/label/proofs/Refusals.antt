@@ -6,7 +6,7 @@ use mathlib.Core.List.{List, [], _∷_, _++_, append-assoc, append-nil}
 use native.Mathlib.Omega.{arith}
 use native.Mathlib.Decide.{decLe, decLt}
 use lib.ListN.{length}
-use Rattle.label.specs.Label.{badAt, headerOf, Walked, walkOf, withTag, isField, readOf}
+use Rattle.label.specs.Label.{badAt, headerOf, Walked, walkOf, withTag, isField, isGood, complete, readOf}
 use Rattle.label.specs.Rows.{Stands, Reached, start, next, Reads, overlong, unreadable, missingFirst, missingSecond, good}
 use Rattle.label.specs.declared.field.Why.the-variants.{Missing}
 use Rattle.label.specs.declared.field.Refusal.{Refusal}
@@ -17,7 +17,7 @@ use Rattle.label.specs.declared.reading.Reading.{Reading}
 use Rattle.label.specs.declared.reading.Reading.the-variants.{Good, Refused as Bad}
 use Rattle.label.proofs.Standing.{stands-read, read-stands, standing}
 use Rattle.label.proofs.Walking.{rest, walk-is-rest, rest-done, rest-field, rest-refused}
-use Rattle.label.proofs.ReadingLaws.{read-too-long, read-bad, read-first-missing, read-second-missing, read-good}
+use Rattle.label.proofs.ReadingLaws.{read-too-long, read-bad, read-missing, read-good, lacks-first, as-second}
 
 module _ (s : List ℕ) where
   -- fields lead to places in the record
@@ -39,11 +39,11 @@ module _ (s : List ℕ) where
     pub all-walked : walkOf s ≡ record { fields = fs; ends = Good }
     all-walked = reached-walk r ∙ rw (rest-done s (length s) before (omega arith), append-nil)
 
-    all-fields : (t : ℕ) {b : Bool} → isField (withTag t fs) ≡ b → isField (withTag t (walkOf s .fields)) ≡ b
-    all-fields t e = rw all-walked e
+    all-complete : {b : Bool} → complete fs ≡ b → complete (walkOf s .fields) ≡ b
+    all-complete e = rw all-walked e
 
-    all-ends : walkOf s .ends ≡ Good
-    all-ends = ap (λ (w : Walked). w .ends) all-walked
+    all-good : isGood (walkOf s .ends) ≡ true
+    all-good = ap (λ (w : Walked). isGood (w .ends)) all-walked
 
   -- what the rows say is what reading answers
   pub rows-read : {r : Reading} → Reads s r → readOf s ≡ r
@@ -51,13 +51,13 @@ module _ (s : List ℕ) where
   rows-read (unreadable {at} {before} {fs} {r} h l m st) =
       let e = rest-refused s at before r m (stands-read s at before st) in
       read-bad s h (ap (λ (w : Walked). w .ends) (reached-walk l) ∙ ap (λ (w : Walked). w .ends) e)
-  rows-read (missingFirst h l e) = read-first-missing s h (all-ends l) (all-fields l 1 e)
+  rows-read (missingFirst {before} {fs} h l e) = read-missing s h (all-good l) (all-complete l (lacks-first fs e))
   rows-read (missingSecond {before} {fs} h l e) = go (isField (withTag 1 fs)) refl
     where
       go : (b : Bool) → isField (withTag 1 fs) ≡ b → readOf s ≡ badAt Missing (length s)
-      go true o = read-second-missing s h (all-ends l) (all-fields l 1 o) (all-fields l 2 e)
-      go false o = read-first-missing s h (all-ends l) (all-fields l 1 o)
-  rows-read (good h l o t) = read-good s h (all-ends l) (all-fields l 1 o) (all-fields l 2 t)
+      go true o = read-missing s h (all-good l) (all-complete l (as-second fs o e))
+      go false o = read-missing s h (all-good l) (all-complete l (lacks-first fs o))
+  rows-read (good {before} {fs} h l o t) = read-good s h (all-good l) (all-complete l (as-second fs o t))
 
   -- from any place that fields lead to, they lead to the end, or to a place where no field stands
   data Ends : Type 0 where

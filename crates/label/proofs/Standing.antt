@@ -1,6 +1,7 @@
 -- The header reading and the rows of the table say the same of a place. Assumes nothing.
 use Prim.Native.Nat.{ℕ, _+_, _≤_, _<_}
 use mathlib.Core.Path.{_≡_, refl, subst}
+use mathlib.Core.Bool.{Bool, true, false}
 use mathlib.Core.List.{List}
 use native.Mathlib.Omega.{arith}
 use native.Mathlib.Decide.{decLe}
@@ -9,8 +10,6 @@ use lib.ListN.{length, getD}
 use Rattle.rapidhash.specs.Words.{word}
 use Rattle.label.specs.Label.{table, headerOf}
 use Rattle.label.specs.Rows.{Stands, headerCut, noSuchTag, notAbove, tooShort, tooLong, valueCut, field}
-use Rattle.label.specs.declared.field.Lengths.{Lengths}
-use Rattle.label.specs.declared.field.Lengths.the-variants.{Between, NoField}
 use Rattle.label.specs.declared.field.Field.{Field}
 use Rattle.label.specs.declared.field.Lookup.{Lookup}
 use Rattle.label.specs.declared.field.Lookup.the-variants.{At}
@@ -34,33 +33,31 @@ module _ (s : List ℕ) (at before : ℕ) where
   pub read-stands : Stands s at before (headerOf s at before)
   read-stands = whole (decLe (at + 3) (length s))
     where
-      value : {least most : ℕ} → at + 3 ≤ length s → table (getD s at 0) ≡ Between least most → before < getD s at 0
-          → least ≤ word 2 s (at + 1) → word 2 s (at + 1) ≤ most → Dec (at + 3 + word 2 s (at + 1) ≤ length s)
-          → Stands s at before (headerOf s at before)
+      value : at + 3 ≤ length s → table (getD s at 0) .known ≡ true → before < getD s at 0 → table (getD s at 0) .least ≤ word 2 s (at + 1)
+          → word 2 s (at + 1) ≤ table (getD s at 0) .most → Dec (at + 3 + word 2 s (at + 1) ≤ length s) → Stands s at before (headerOf s at before)
       value w k a e f (yes h) = stands (header-field s at before w k a e f refl h) (field w k a e f h)
       value w k a e f (no n) = stands (value-cut s at before w k a e f (lt-of-not-le n)) (valueCut w k a e f (lt-of-not-le n))
 
-      most-of : {least most : ℕ} → at + 3 ≤ length s → table (getD s at 0) ≡ Between least most → before < getD s at 0
-          → least ≤ word 2 s (at + 1) → Dec (word 2 s (at + 1) ≤ most) → Stands s at before (headerOf s at before)
+      most-of : at + 3 ≤ length s → table (getD s at 0) .known ≡ true → before < getD s at 0 → table (getD s at 0) .least ≤ word 2 s (at + 1)
+          → Dec (word 2 s (at + 1) ≤ table (getD s at 0) .most) → Stands s at before (headerOf s at before)
       most-of w k a e (yes f) = value w k a e f (decLe (at + 3 + word 2 s (at + 1)) (length s))
       most-of w k a e (no n) = stands (header-too-long s at before w k a e (lt-of-not-le n)) (tooLong w k a e (lt-of-not-le n))
 
-      least-of : {least most : ℕ} → at + 3 ≤ length s → table (getD s at 0) ≡ Between least most → before < getD s at 0
-          → Dec (least ≤ word 2 s (at + 1)) → Stands s at before (headerOf s at before)
-      least-of {least} {most} w k a (yes e) = most-of w k a e (decLe (word 2 s (at + 1)) most)
+      least-of : at + 3 ≤ length s → table (getD s at 0) .known ≡ true → before < getD s at 0
+          → Dec (table (getD s at 0) .least ≤ word 2 s (at + 1)) → Stands s at before (headerOf s at before)
+      least-of w k a (yes e) = most-of w k a e (decLe (word 2 s (at + 1)) (table (getD s at 0) .most))
       least-of w k a (no n) = stands (header-too-short s at before w k a (lt-of-not-le n)) (tooShort w k a (lt-of-not-le n))
 
-      above : {least most : ℕ} → at + 3 ≤ length s → table (getD s at 0) ≡ Between least most → Dec (getD s at 0 ≤ before)
-          → Stands s at before (headerOf s at before)
+      above : at + 3 ≤ length s → table (getD s at 0) .known ≡ true → Dec (getD s at 0 ≤ before) → Stands s at before (headerOf s at before)
       above w k (yes n) = stands (header-not-above s at before w k n) (notAbove w k n)
-      above {least} w k (no n) = least-of w k (lt-of-not-le n) (decLe least (word 2 s (at + 1)))
+      above w k (no n) = least-of w k (lt-of-not-le n) (decLe (table (getD s at 0) .least) (word 2 s (at + 1)))
 
-      known : at + 3 ≤ length s → (l : Lengths) → table (getD s at 0) ≡ l → Stands s at before (headerOf s at before)
-      known w NoField k = stands (header-no-field s at before w k) (noSuchTag w k)
-      known w (Between least most) k = above w k (decLe (getD s at 0) before)
+      known : at + 3 ≤ length s → (b : Bool) → table (getD s at 0) .known ≡ b → Stands s at before (headerOf s at before)
+      known w false k = stands (header-no-field s at before w k) (noSuchTag w k)
+      known w true k = above w k (decLe (getD s at 0) before)
 
       whole : Dec (at + 3 ≤ length s) → Stands s at before (headerOf s at before)
-      whole (yes w) = known w (table (getD s at 0)) refl
+      whole (yes w) = known w (table (getD s at 0) .known) refl
       whole (no n) = stands (header-cut s at before (lt-of-not-le n)) (headerCut (lt-of-not-le n))
 
   -- so a field is just what a row says
@@ -75,14 +72,12 @@ pub record Standing (s : List ℕ) (at before : ℕ) (f : Field) : Type 0 where
   pub size : f .length ≡ word 2 s (at + 1)
   pub above : before < f .tag
   pub within : f .start + f .length ≤ length s
-  pub least : ℕ
-  pub most : ℕ
-  pub row : table (f .tag) ≡ Between least most
-  pub enough : least ≤ f .length
-  pub fits : f .length ≤ most
+  pub known : table (f .tag) .known ≡ true
+  pub enough : table (f .tag) .least ≤ f .length
+  pub fits : f .length ≤ table (f .tag) .most
 
 pub standing : (s : List ℕ) (at before : ℕ) {f : Field} → Stands s at before (At f) → Standing s at before f
-standing s at before (field {least} {most} w k a e f h) =
+standing s at before (field w k a e f h) =
     record {
       tag = refl;
       place = refl;
@@ -90,9 +85,7 @@ standing s at before (field {least} {most} w k a e f h) =
       size = refl;
       above = a;
       within = h;
-      least = least;
-      most = most;
-      row = k;
+      known = k;
       enough = e;
       fits = f;
     }

@@ -1,12 +1,12 @@
 -- A good record in plain words (the scope's "Label record"): what it is, not how it is read. Assumes nothing.
 use Prim.Native.Nat.{ℕ, _/_, _%_, _≤_, _<_}
 use mathlib.Core.Path.{_≡_}
+use mathlib.Core.Bool.{true}
 use mathlib.Core.List.{List, [], _∷_, _++_}
 use lib.ListN.{length}
 use Rattle.label.specs.Label.{table, valueOf}
 use Rattle.label.specs.declared.field.Field.{Field}
 use Rattle.label.specs.declared.field.Lookup.the-variants.{At}
-use Rattle.label.specs.declared.field.Lengths.the-variants.{Between}
 
 -- a field as it is meant: a tag and a value
 pub record Plain : Type 0 where
@@ -30,8 +30,8 @@ pub data Ascending : ℕ → List Plain → Type 0 where
 -- each length is one that the table has for its tag
 pub data InTable : List Plain → Type 0 where
   none : InTable []
-  sized : {least most : ℕ} {p : Plain} {ps : List Plain} → table (p .tag) ≡ Between least most → least ≤ length (p .value)
-      → length (p .value) ≤ most → InTable ps → InTable (p ∷ ps)
+  sized : {p : Plain} {ps : List Plain} → table (p .tag) .known ≡ true → table (p .tag) .least ≤ length (p .value)
+      → length (p .value) ≤ table (p .tag) .most → InTable ps → InTable (p ∷ ps)
 
 -- a field with a tag is there
 pub data Present (t : ℕ) : List Plain → Type 0 where

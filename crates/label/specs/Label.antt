@@ -22,36 +22,43 @@ use Rattle.label.specs.declared.reading.Reading.{Reading}
 use Rattle.label.specs.declared.reading.Reading.the-variants.{Good, Refused as Bad}
 use Rattle.label.specs.declared.fingerprint.Printed.{Printed}
 use Rattle.label.specs.declared.fingerprint.Printed.the-variants.{Print, Refused as NoPrint}
-use Rattle.label.specs.declared.field.Lengths.the-variants.{Between, NoField}
+
+-- a field whose value has from least to most bytes
+abbrev pub lengths : ℕ → ℕ → Lengths
+lengths least most = record { known = true; least = least; most = most }
+
+-- no such field
+abbrev pub noField : Lengths
+noField = record { known = false; least = 0; most = 0 }
 
 -- the table: how long a value may be under each tag; there is no field with tag 0 or 5 to 127
 unfoldable pub table : ℕ → Lengths
 table t =
-    pick (eqb t 1) (Between 1 32)
-    (pick (eqb t 2) (Between 0 1024)
-    (pick (eqb t 3) (Between 1 64)
-    (pick (eqb t 4) (Between 0 4096)
-    (pick (leb 128 t) (Between 0 65535) NoField))))
+    pick (eqb t 1) (lengths 1 32)
+    (pick (eqb t 2) (lengths 0 1024)
+    (pick (eqb t 3) (lengths 1 64)
+    (pick (eqb t 4) (lengths 0 4096)
+    (pick (leb 128 t) (lengths 0 65535) noField))))
 
 -- a look that is refused at a place
 abbrev pub refusedAt : Why → ℕ → Lookup
 refusedAt why place = Refused (record { why = why; place = place })
 
--- of a tag that the table has, at a place: it must be above the one before, its length within the limits, and its value within the record
-unfoldable pub fieldOf : List ℕ → ℕ → ℕ → Lengths → Lookup
-fieldOf s at before NoField = refusedAt NoSuchTag at
-fieldOf s at before (Between least most) =
-    let tag = getD s at 0 in
-    let n = word 2 s (at + 1) in
-    pick (ltb before tag)
-    (pick (every (leb least n ∷ leb n most ∷ []))
+-- of a tag and a length at a place: the table must have the tag, the tag be above the one before, the length be within the limits, and the
+-- value end within the record
+unfoldable pub fieldOf : List ℕ → ℕ → ℕ → ℕ → ℕ → Lookup
+fieldOf s at before tag n =
+    pick (table tag .known)
+    (pick (ltb before tag)
+    (pick (every (leb (table tag .least) n ∷ leb n (table tag .most) ∷ []))
     (pick (leb (at + 3 + n) (length s)) (At (record { tag = tag; place = at; start = at + 3; length = n })) (refusedAt Cut at))
     (refusedAt BadLength at))
-    (refusedAt NotAbove at)
+    (refusedAt NotAbove at))
+    (refusedAt NoSuchTag at)
 
 -- what stands at a place, where the tag before is given (0 where there is none): three bytes at least, and then a field
 unfoldable pub headerOf : List ℕ → ℕ → ℕ → Lookup
-headerOf s at before = pick (leb (at + 3) (length s)) (fieldOf s at before (table (getD s at 0))) (refusedAt Cut at)
+headerOf s at before = pick (leb (at + 3) (length s)) (fieldOf s at before (getD s at 0) (word 2 s (at + 1))) (refusedAt Cut at)
 
 -- a reading that is refused at a place
 abbrev pub badAt : Why → ℕ → Reading
@@ -95,14 +102,20 @@ abbrev pub isField : Lookup → Bool
 isField (At f) = true
 isField (Refused r) = false
 
--- a record whose fields end well must have the required ones
-unfoldable pub complete : ℕ → List Field → Reading → Reading
-complete n fs Good = pick (every (isField (withTag 1 fs) ∷ isField (withTag 2 fs) ∷ [])) Good (badAt Missing n)
-complete n fs (Bad r) = Bad r
+-- whether the required fields are there
+abbrev pub complete : List Field → Bool
+complete fs = every (isField (withTag 1 fs) ∷ isField (withTag 2 fs) ∷ [])
+
+-- whether a reading is good
+abbrev pub isGood : Reading → Bool
+isGood Good = true
+isGood (Bad r) = false
 
 -- reading: not too long, then each field in turn, then the required ones
 unfoldable pub readOf : List ℕ → Reading
-readOf s = pick (leb (length s) 8192) (complete (length s) (walkOf s .fields) (walkOf s .ends)) (badAt TooLong 0)
+readOf s =
+    let w = walkOf s in
+    pick (leb (length s) 8192) (pick (isGood (w .ends)) (pick (complete (w .fields)) Good (badAt Missing (length s))) (w .ends)) (badAt TooLong 0)
 
 -- the first tag of a list that a record has
 unfoldable pub firstListed : List Field → List ℕ → Lookup

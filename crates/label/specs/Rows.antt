@@ -12,7 +12,6 @@ use Rattle.label.specs.declared.field.Refusal.{Refusal}
 use Rattle.label.specs.declared.field.Field.{Field}
 use Rattle.label.specs.declared.field.Lookup.{Lookup}
 use Rattle.label.specs.declared.field.Lookup.the-variants.{At, Refused}
-use Rattle.label.specs.declared.field.Lengths.the-variants.{Between, NoField}
 use Rattle.label.specs.declared.reading.Reading.{Reading}
 use Rattle.label.specs.declared.reading.Reading.the-variants.{Good, Refused as Bad}
 
@@ -20,17 +19,17 @@ use Rattle.label.specs.declared.reading.Reading.the-variants.{Good, Refu
 -- one before. 9: else the length is outside the limits. 6: else the value ends past the record. Else it is a field
 pub data Stands (s : List ℕ) (at before : ℕ) : Lookup → Type 0 where
   headerCut : length s < at + 3 → Stands s at before (refusedAt Cut at)
-  noSuchTag : at + 3 ≤ length s → table (getD s at 0) ≡ NoField → Stands s at before (refusedAt NoSuchTag at)
-  notAbove : {least most : ℕ} → at + 3 ≤ length s → table (getD s at 0) ≡ Between least most → getD s at 0 ≤ before
+  noSuchTag : at + 3 ≤ length s → table (getD s at 0) .known ≡ false → Stands s at before (refusedAt NoSuchTag at)
+  notAbove : at + 3 ≤ length s → table (getD s at 0) .known ≡ true → getD s at 0 ≤ before
       → Stands s at before (refusedAt NotAbove at)
-  tooShort : {least most : ℕ} → at + 3 ≤ length s → table (getD s at 0) ≡ Between least most → before < getD s at 0
-      → word 2 s (at + 1) < least → Stands s at before (refusedAt BadLength at)
-  tooLong : {least most : ℕ} → at + 3 ≤ length s → table (getD s at 0) ≡ Between least most → before < getD s at 0
-      → least ≤ word 2 s (at + 1) → most < word 2 s (at + 1) → Stands s at before (refusedAt BadLength at)
-  valueCut : {least most : ℕ} → at + 3 ≤ length s → table (getD s at 0) ≡ Between least most → before < getD s at 0
-      → least ≤ word 2 s (at + 1) → word 2 s (at + 1) ≤ most → length s < at + 3 + word 2 s (at + 1) → Stands s at before (refusedAt Cut at)
-  field : {least most : ℕ} → at + 3 ≤ length s → table (getD s at 0) ≡ Between least most → before < getD s at 0
-      → least ≤ word 2 s (at + 1) → word 2 s (at + 1) ≤ most → at + 3 + word 2 s (at + 1) ≤ length s
+  tooShort : at + 3 ≤ length s → table (getD s at 0) .known ≡ true → before < getD s at 0
+      → word 2 s (at + 1) < table (getD s at 0) .least → Stands s at before (refusedAt BadLength at)
+  tooLong : at + 3 ≤ length s → table (getD s at 0) .known ≡ true → before < getD s at 0
+      → table (getD s at 0) .least ≤ word 2 s (at + 1) → table (getD s at 0) .most < word 2 s (at + 1) → Stands s at before (refusedAt BadLength at)
+  valueCut : at + 3 ≤ length s → table (getD s at 0) .known ≡ true → before < getD s at 0
+      → table (getD s at 0) .least ≤ word 2 s (at + 1) → word 2 s (at + 1) ≤ table (getD s at 0) .most → length s < at + 3 + word 2 s (at + 1) → Stands s at before (refusedAt Cut at)
+  field : at + 3 ≤ length s → table (getD s at 0) .known ≡ true → before < getD s at 0
+      → table (getD s at 0) .least ≤ word 2 s (at + 1) → word 2 s (at + 1) ≤ table (getD s at 0) .most → at + 3 + word 2 s (at + 1) ≤ length s
       → Stands s at before (At (record { tag = getD s at 0; place = at; start = at + 3; length = word 2 s (at + 1) }))
 
 -- a place that fields lead to from the record's first byte, one after another, with the last one's tag and all of them

@@ -1,11 +1,11 @@
 // What stands at one place of a label record: a field's header read and checked, on its own. Reading, finding and the
 // fingerprint go from field to field by it alone, so that a new kind of field is a row of the table here.
 ghost use mathlib.Core.Path.{_≡_};
-ghost use Prim.Native.Nat.{_+_, _-_, _<_, _≤_};
+ghost use Prim.Native.Nat.{_+_, _-_, _*_, _<_, _≤_};
 ghost use lib.ListN.{length};
 ghost use Rattle.rapidhash.specs.Words.{word};
 ghost use Rattle.label.specs.Numbers.{numberOf, toldLookup};
-ghost use Rattle.label.specs.Label.{table, refusedAt, headerOf};
+ghost use Rattle.label.specs.Label.{lengths, noField, table, refusedAt, headerOf};
 
 // Why a record, or a search in it, is refused.
 pub enum Why {
@@ -55,10 +55,11 @@ pub enum Lookup {
     Refused(Refusal),
 }
 
-// The lengths that a value may have, or that there is no such field.
-pub enum Lengths {
-    Between(usize, usize),
-    NoField,
+// A row of the table: whether there is such a field, and how long its value may be.
+pub struct Lengths {
+    pub known: bool,
+    pub least: usize,
+    pub most: usize,
 }
 
 // The field at a place, where the tag of the field before is given, and 0 where there is none. The order of the tests
@@ -71,31 +72,32 @@ pub fn header(record: &[u8], at: usize, before: u8) -> Lookup
         return refused(Why::Cut, at);
     }
     let tag = record[at];
-    let lengths = lengths_of(tag);
-    match lengths {
-        Lengths::NoField => refused(Why::NoSuchTag, at),
-        Lengths::Between(least, most) => {
-            if tag <= before {
-                return refused(Why::NotAbove, at);
-            }
-            let length = length_at(record, at + 1);
-            if length < least {
-                return refused(Why::BadLength, at);
-            }
-            if most < length {
-                return refused(Why::BadLength, at);
-            }
-            if left - 3 < length {
-                return refused(Why::Cut, at);
-            }
-            Lookup::At(Field {
-                tag,
-                place: at,
-                start: at + 3,
-                length,
-            })
-        }
+    let length = length_at(record, at + 1);
+    let room = left - 3;
+    let row = lengths_of(tag);
+    let known = row.known;
+    let above = before < tag;
+    if !known {
+        return refused(Why::NoSuchTag, at);
     }
+    if !above {
+        return refused(Why::NotAbove, at);
+    }
+    if length < row.least {
+        return refused(Why::BadLength, at);
+    }
+    if row.most < length {
+        return refused(Why::BadLength, at);
+    }
+    if room < length {
+        return refused(Why::Cut, at);
+    }
+    Lookup::At(Field {
+        tag,
+        place: at,
+        start: at + 3,
+        length,
+    })
 }
 
 // The table of fields.
@@ -103,12 +105,32 @@ pub fn lengths_of(tag: u8) -> Lengths
     ensures { λ r. ⌜ r ≡ table tag ⌝ }
 {
     match tag {
-        1 => Lengths::Between(1, 32),
-        2 => Lengths::Between(0, 1024),
-        3 => Lengths::Between(1, 64),
-        4 => Lengths::Between(0, 4096),
-        128..=255 => Lengths::Between(0, 65535),
-        0 | 5..=127 => Lengths::NoField,
+        1 => between(1, 32),
+        2 => between(0, 1024),
+        3 => between(1, 64),
+        4 => between(0, 4096),
+        128..=255 => between(0, 65535),
+        0 | 5..=127 => no_field(),
+    }
+}
+
+fn between(least: usize, most: usize) -> Lengths
+    ensures { λ r. ⌜ r ≡ lengths least most ⌝ }
+{
+    Lengths {
+        known: true,
+        least,
+        most,
+    }
+}
+
+fn no_field() -> Lengths
+    ensures { λ r. ⌜ r ≡ noField ⌝ }
+{
+    Lengths {
+        known: false,
+        least: 0,
+        most: 0,
     }
 }
 
@@ -134,7 +156,14 @@ fn length_at(record: &[u8], at: usize) -> usize
     requires { ⌜ at + 2 ≤ length (now «record») ⌝ }
     ensures { λ r. ⌜ r ≡ word 2 (now («record» .entry)) at ⌝ }
 {
-    size(record[at]) + size(record[at + 1]) * 0x100
+    paired(record[at], record[at + 1])
+}
+
+// Two bytes as a length.
+fn paired(low: u8, high: u8) -> usize
+    ensures { λ r. ⌜ r ≡ low + high * 0x100 ⌝ }
+{
+    size(low) + size(high) * 0x100
 }
 
 // A byte as a length.

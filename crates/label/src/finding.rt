@@ -51,7 +51,7 @@ pub(crate) fn value_of(record: &[u8], found: Lookup) -> &[u8]
     match found {
         Lookup::At(f) => {
             let start = f.start;
-            let end = start + f.length;
+            let end = f.start + f.length;
             &record[start..end]
         }
         Lookup::Refused(_) => &record[0..0],

@@ -1,7 +1,7 @@
 // Reading a label record: every field in turn, and then whether the required ones are there.
 ghost use mathlib.Core.Path.{_≡_};
 ghost use Rattle.label.specs.Numbers.{toldReading};
-ghost use Rattle.label.specs.Label.{badAt, walkOf, notListed, withTag, isField, readOf};
+ghost use Rattle.label.specs.Label.{badAt, walkOf, notListed, withTag, isField, isGood, complete, readOf};
 use crate::field::Lookup;
 use crate::field::Refusal;
 use crate::field::Why;
@@ -24,18 +24,35 @@ pub fn read(record: &[u8]) -> Reading
         return refused(Why::TooLong, 0);
     }
     let ends = walk(record);
-    match ends {
-        Reading::Refused(r) => Reading::Refused(r),
-        Reading::Good => {
-            if !has(record, 1) {
-                return refused(Why::Missing, record.len());
-            }
-            if !has(record, 2) {
-                return refused(Why::Missing, record.len());
-            }
-            Reading::Good
-        }
+    let missing = refused(Why::Missing, record.len());
+    let readable = is_good(ends);
+    let complete = is_complete(record);
+    if !readable {
+        return ends;
     }
+    if !complete {
+        return missing;
+    }
+    Reading::Good
+}
+
+fn is_good(reading: Reading) -> bool
+    ensures { λ r. ⌜ r ≡ isGood reading ⌝ }
+{
+    match reading {
+        Reading::Good => true,
+        Reading::Refused(_) => false,
+    }
+}
+
+// Whether the required fields are there.
+fn is_complete(record: &[u8]) -> bool
+    ensures { λ r. ⌜ r ≡ complete (walkOf (now («record» .entry)) .fields) ⌝ }
+{
+    if !has(record, 1) {
+        return false;
+    }
+    has(record, 2)
 }
 
 fn refused(why: Why, place: usize) -> Reading
