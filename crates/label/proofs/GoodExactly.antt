@@ -96,7 +96,7 @@ module _ (s : List ℕ) where
           let w = written-within s at p (joined ps) e in
           let known : table (getD s at 0) .known ≡ true = rw tag known-tag in
           let stands : headerOf s at before ≡ At f =
-          header-field s at before (omega arith) known (rw tag a) (rw (tag, n) enough) (rw (tag, n) fits) refl (rw n w) in
+          header-field s at before (omega arith) known (rw tag a) (rw (tag, n) enough) (rw (tag, n) fits) (rw n w) in
           let onward = rest-field s at before f (omega arith) stands in
           let is : plain s f ≡ p = rw (tag, n, written-value s at p (joined ps) e) in
           let rest-is = further (rw n (written-rest s at p (joined ps) e)) (rw tag later-tags) later-lengths in

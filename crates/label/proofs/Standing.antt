@@ -24,7 +24,7 @@ module _ (s : List ℕ) (at before : ℕ) where
   stands-read (tooShort w k a n) = header-too-short s at before w k a n
   stands-read (tooLong w k a e n) = header-too-long s at before w k a e n
   stands-read (valueCut w k a e f n) = value-cut s at before w k a e f n
-  stands-read (field w k a e f h) = header-field s at before w k a e f refl h
+  stands-read (field w k a e f h) = header-field s at before w k a e f h
 
   stands : {l : Lookup} → headerOf s at before ≡ l → Stands s at before l → Stands s at before (headerOf s at before)
   stands e h = rw e h
@@ -35,7 +35,7 @@ module _ (s : List ℕ) (at before : ℕ) where
     where
       value : at + 3 ≤ length s → table (getD s at 0) .known ≡ true → before < getD s at 0 → table (getD s at 0) .least ≤ word 2 s (at + 1)
           → word 2 s (at + 1) ≤ table (getD s at 0) .most → Dec (at + 3 + word 2 s (at + 1) ≤ length s) → Stands s at before (headerOf s at before)
-      value w k a e f (yes h) = stands (header-field s at before w k a e f refl h) (field w k a e f h)
+      value w k a e f (yes h) = stands (header-field s at before w k a e f h) (field w k a e f h)
       value w k a e f (no n) = stands (value-cut s at before w k a e f (lt-of-not-le n)) (valueCut w k a e f (lt-of-not-le n))
 
       most-of : at + 3 ≤ length s → table (getD s at 0) .known ≡ true → before < getD s at 0 → table (getD s at 0) .least ≤ word 2 s (at + 1)

@@ -44,13 +44,19 @@ table t =
 abbrev pub refusedAt : Why → ℕ → Lookup
 refusedAt why place = Refused (record { why = why; place = place })
 
+-- whether a row of the table has a length
+abbrev pub within : Lengths → ℕ → Bool
+within row n = every (leb (row .least) n ∷ leb n (row .most) ∷ [])
+
 -- of a tag and a length at a place: the table must have the tag, the tag be above the one before, the length be within the limits, and the
 -- value end within the record
-unfoldable pub fieldOf : List ℕ → ℕ → ℕ → ℕ → ℕ → Lookup
-fieldOf s at before tag n =
+unfoldable pub fieldOf : List ℕ → ℕ → ℕ → Lookup
+fieldOf s at before =
+    let tag = getD s at 0 in
+    let n = word 2 s (at + 1) in
     pick (table tag .known)
     (pick (ltb before tag)
-    (pick (every (leb (table tag .least) n ∷ leb n (table tag .most) ∷ []))
+    (pick (within (table tag) n)
     (pick (leb (at + 3 + n) (length s)) (At (record { tag = tag; place = at; start = at + 3; length = n })) (refusedAt Cut at))
     (refusedAt BadLength at))
     (refusedAt NotAbove at))
@@ -58,7 +64,7 @@ fieldOf s at before tag n =
 
 -- what stands at a place, where the tag before is given (0 where there is none): three bytes at least, and then a field
 unfoldable pub headerOf : List ℕ → ℕ → ℕ → Lookup
-headerOf s at before = pick (leb (at + 3) (length s)) (fieldOf s at before (getD s at 0) (word 2 s (at + 1))) (refusedAt Cut at)
+headerOf s at before = pick (leb (at + 3) (length s)) (fieldOf s at before) (refusedAt Cut at)
 
 -- a reading that is refused at a place
 abbrev pub badAt : Why → ℕ → Reading

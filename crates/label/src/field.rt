@@ -5,7 +5,7 @@ ghost use Prim.Native.Nat.{_+_, _-_, _*_, _<_, _≤_};
 ghost use lib.ListN.{length};
 ghost use Rattle.rapidhash.specs.Words.{word};
 ghost use Rattle.label.specs.Numbers.{numberOf, toldLookup};
-ghost use Rattle.label.specs.Label.{lengths, noField, table, refusedAt, headerOf};
+ghost use Rattle.label.specs.Label.{lengths, noField, table, refusedAt, within, fieldOf, headerOf};
 
 // Why a record, or a search in it, is refused.
 pub enum Why {
@@ -62,42 +62,15 @@ pub struct Lengths {
     pub most: usize,
 }
 
-// The field at a place, where the tag of the field before is given, and 0 where there is none. The order of the tests
-// is the order of the refusals.
+// The field at a place, where the tag of the field before is given, and 0 where there is none.
 pub fn header(record: &[u8], at: usize, before: u8) -> Lookup
     ensures { λ r. ⌜ toldLookup r ≡ toldLookup (headerOf (now («record» .entry)) at before) ⌝ }
 {
-    let left = left_from(record, at);
-    if left < 3 {
-        return refused(Why::Cut, at);
+    if left_from(record, at) < 3 {
+        refused(Why::Cut, at)
+    } else {
+        field_at(record, at, before)
     }
-    let tag = record[at];
-    let length = length_at(record, at + 1);
-    let room = left - 3;
-    let row = lengths_of(tag);
-    let known = row.known;
-    let above = before < tag;
-    if !known {
-        return refused(Why::NoSuchTag, at);
-    }
-    if !above {
-        return refused(Why::NotAbove, at);
-    }
-    if length < row.least {
-        return refused(Why::BadLength, at);
-    }
-    if row.most < length {
-        return refused(Why::BadLength, at);
-    }
-    if room < length {
-        return refused(Why::Cut, at);
-    }
-    Lookup::At(Field {
-        tag,
-        place: at,
-        start: at + 3,
-        length,
-    })
 }
 
 // The table of fields.
@@ -132,6 +105,47 @@ fn no_field() -> Lengths
         least: 0,
         most: 0,
     }
+}
+
+// The field whose header is known to be there. The order of the tests is the order of the refusals.
+fn field_at(record: &[u8], place: usize, before: u8) -> Lookup
+    requires { ⌜ place + 3 ≤ length (now «record») ⌝ }
+    ensures { λ r. ⌜ r ≡ fieldOf (now («record» .entry)) place before ⌝ }
+{
+    let tag = record[place];
+    let length = length_at(record, place + 1);
+    let row = lengths_of(tag);
+    let known = row.known;
+    let above = before < tag;
+    let fits = is_within(row, length);
+    let whole = length <= left_from(record, place + 3);
+    if !known {
+        return refused(Why::NoSuchTag, place);
+    }
+    if !above {
+        return refused(Why::NotAbove, place);
+    }
+    if !fits {
+        return refused(Why::BadLength, place);
+    }
+    if !whole {
+        return refused(Why::Cut, place);
+    }
+    Lookup::At(Field {
+        tag,
+        place,
+        start: place + 3,
+        length,
+    })
+}
+
+fn is_within(row: Lengths, length: usize) -> bool
+    ensures { λ r. ⌜ r ≡ within row length ⌝ }
+{
+    if length < row.least {
+        return false;
+    }
+    length <= row.most
 }
 
 fn refused(why: Why, place: usize) -> Lookup
