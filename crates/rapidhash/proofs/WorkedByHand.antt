@@ -1,10 +1,10 @@
 -- The examples worked by hand, closed by computation. Assumes nothing.
 use mathlib.Core.Path.{_≡_, refl}
 use mathlib.Core.Bool.{true}
-use Rattle.rapidhash.specs.Choice.{every, allAre}
+use Rattle.secrets.specs.Choice.{every, allAre}
 use Rattle.rapidhash.specs.Words.{word}
-use Rattle.rapidhash.specs.Mix.{low, high, mum, mix}
-use Rattle.rapidhash.specs.Secrets.{defaults, mend, repair, stirred, premix, chain, seedOf}
+use Rattle.secrets.specs.Mix.{low, high, mum, mix}
+use Rattle.secrets.specs.Secrets.{defaults, mend, repair, stirred, premix, chain, seedOf}
 use Rattle.rapidhash.specs.Hash.{
   chunks,
   mixPair,

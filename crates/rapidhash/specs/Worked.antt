@@ -4,11 +4,11 @@ use mathlib.Core.Bool.{Bool, true, false}
 use mathlib.Core.List.{List, [], _∷_, _++_}
 use lib.Dec.{eqb}
 use lib.ListN.{replicate}
-use Rattle.rapidhash.specs.Choice.{allAre}
-use Rattle.rapidhash.specs.Mix.{mum, mix}
-use Rattle.rapidhash.specs.Secrets.{repair, seedOf}
+use Rattle.secrets.specs.Choice.{allAre}
+use Rattle.secrets.specs.Mix.{mum, mix}
+use Rattle.secrets.specs.Secrets.{repair, seedOf}
 use Rattle.rapidhash.specs.Hash.{chunks, endsOf, hashOf}
-use Rattle.rapidhash.specs.declared.v3.seed.RapidSecrets.{RapidSecrets}
+use Rattle.secrets.specs.declared.v3.seed.RapidSecrets.{RapidSecrets}
 
 -- seed 0 and all secrets 0, for W5 to W8
 abbrev pub zeros : RapidSecrets

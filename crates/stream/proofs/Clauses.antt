@@ -9,7 +9,7 @@ use lib.Dec.{leb, eqb}
 use lib.ListN.{length, take, drop, length-drop}
 use lib.Seq.{take-all}
 use borrow.Author.Tests.{le-leb, lt-leb, eq-eqb, ne-eqb, leb-true, not-true, not-false}
-use Rattle.rapidhash.specs.Choice.{pick, every, allAre}
+use Rattle.secrets.specs.Choice.{pick, every, allAre}
 use Rattle.rapidhash.proofs.Tests.{same-leb}
 use Rattle.stream.proofs.Sound.{both}
 use Rattle.stream.specs.State.{sofar, most, sound}

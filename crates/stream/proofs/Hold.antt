@@ -8,7 +8,7 @@ use lib.Dec.{eqb}
 use lib.ListN.{length, take, drop, replicate, length-append, length-drop, take-append-drop}
 use lib.Seq.{take-at, drop-at, take-append-seam, length-take-le, take-add}
 use borrow.Author.Tests.{eq-eqb, eqb-true}
-use Rattle.rapidhash.specs.Choice.{allAre}
+use Rattle.secrets.specs.Choice.{allAre}
 use Rattle.stream.specs.Stream.{Stream}
 use Rattle.stream.specs.State.{most, sofar, view, hold, sound}
 use Rattle.stream.specs.declared.rapid_stream_hasher.Settings.{Settings}

@@ -5,15 +5,10 @@ ghost use mathlib.Core.Path.{_≡_};
 ghost use Prim.Native.Nat.{_+_, _^_, _<_, _≤_};
 ghost use lib.Dec.{leb};
 ghost use lib.ListN.{length};
-ghost use Rattle.rapidhash.specs.Choice.{allAre};
-ghost use Rattle.rapidhash.specs.Words.{word};
-ghost use Rattle.rapidhash.specs.Numbers.{returned, readOf};
-
-// What a look-up by place answers.
-pub enum Found {
-    Value(u64),
-    PastEnd,
-}
+ghost use Rattle.secrets.specs.Choice.{allAre};
+ghost use Rattle.secrets.specs.Numbers.{returned};
+ghost use Rattle.rapidhash.specs.Words.{word, readOf};
+use secrets::util::found::Found;
 
 // The 8 bytes at an offset.
 pub fn read_u64(bytes: &[u8], offset: usize) -> Found
