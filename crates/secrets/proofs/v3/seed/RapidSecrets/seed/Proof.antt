@@ -5,7 +5,11 @@ use Rattle.secrets.proofs.v3.seed.RapidSecrets.seed.Statement.{statemen
 use Rattle.secrets.proofs.v3.seed.RapidSecrets.seed.Tie as tie
 
 returns : tie.Need-returns
-returns c = search chain-of-seven
+returns c =
+    chain-of-seven _
+    (c .before .before .before .before .before .before .before .premix-seed .ensures) (c .before .before .before .before .before .before .premix-seed2 .ensures)
+    (c .before .before .before .before .before .premix-seed3 .ensures) (c .before .before .before .before .premix-seed4 .ensures) (c .before .before .before .premix-seed5 .ensures)
+    (c .before .before .premix-seed6 .ensures) (c .before .premix-seed7 .ensures) (c .premix-seed8 .ensures)
 
 pub seed-spec : {M : Type 1} → statement M
 seed-spec =
