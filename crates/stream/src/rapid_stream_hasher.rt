@@ -4,7 +4,7 @@ ghost use mathlib.Core.Bool.{true, false};
 ghost use mathlib.Core.List.{[], _++_};
 ghost use Prim.Native.Nat.{_+_, _-_, _*_, _<_, _≤_};
 ghost use lib.Dec.{leb};
-ghost use lib.ListN.{length, take, drop};
+ghost use lib.ListN.{length, take, drop, replicate};
 ghost use Rattle.secrets.specs.Choice.{pick, allAre};
 ghost use Rattle.rapidhash.specs.Words.{word};
 ghost use Rattle.stream.specs.Stream.{feed, streamHash, slide};
@@ -128,8 +128,15 @@ fn opening(settings: Settings) -> RapidStreamHasher
         lanes: [seed; 7],
         count: 0,
         waiting: 0,
-        buffer: [0; 128],
+        buffer: blank(),
     }
+}
+
+// A buffer that holds nothing.
+fn blank() -> [u8; 128]
+    ensures { λ r. ⌜ r ≡ replicate 128 0 ⌝ }
+{
+    [0; 128]
 }
 
 // Whether a state may be gone on from.
@@ -272,7 +279,7 @@ fn from_chunk_end<'a>(
     let x = mix_chunks(data, s, lanes, Size::Full, false, settings.protected);
     let at = x.at;
     let next = x.lanes;
-    let ended = put([0; 128], 0, last_sixteen(prev, data, at));
+    let ended = put(blank(), 0, last_sixteen(prev, data, at));
     RapidStreamHasher {
         settings,
         lanes: next,
