@@ -6,7 +6,7 @@ ghost use Prim.Native.Nat.{_≤_};
 ghost use lib.ListN.{length};
 use libc::STDOUT_FILENO;
 use rapidhash::v3::rapid_const::rapidhash_v3_inline;
-use rapidhash::v3::seed::RapidSecrets;
+use secrets::v3::seed::RapidSecrets;
 use stream::rapid_stream_hasher::Finished;
 use stream::rapid_stream_hasher::Outcome;
 use stream::rapid_stream_hasher::RapidStreamHasher;

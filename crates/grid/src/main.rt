@@ -8,7 +8,7 @@ use libc::STDOUT_FILENO;
 use rapidhash::v3::rapid_const::rapidhash_v3_inline;
 use rapidhash::v3::rapid_const::rapidhash_v3_micro_inline;
 use rapidhash::v3::rapid_const::rapidhash_v3_nano_inline;
-use rapidhash::v3::seed::RapidSecrets;
+use secrets::v3::seed::RapidSecrets;
 
 fn main() {
     for n in 0..301 {

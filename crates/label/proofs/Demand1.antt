@@ -3,7 +3,7 @@ use mathlib.Core.Path.{_≡_}
 use Prim.Native.Nat.{ℕ}
 use mathlib.Core.List.{List}
 use denote.Ref.{RefT, ptr, now}
-use Rattle.rapidhash.proofs.Demand1.{OneAnswer, one}
+use Rattle.secrets.proofs.Demand1.{OneAnswer, one}
 use Rattle.label.proofs.Lookups.{lookup-apart, reading-apart, printed-apart}
 use Rattle.label.proofs.field.header.Reads as header
 use Rattle.label.proofs.field.lengths_of.Reads as lengths-of

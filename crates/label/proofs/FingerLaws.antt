@@ -17,7 +17,7 @@ use Rattle.label.specs.declared.fingerprint.Printed.the-variants.{Print,
 use Rattle.label.specs.declared.field.Why.the-variants.{TooLong}
 use Rattle.label.proofs.Lookups.{reading-apart}
 use Rattle.label.proofs.ReadingLaws.{read-too-long}
-use Rattle.rapidhash.specs.declared.v3.seed.RapidSecrets.{RapidSecrets}
+use Rattle.secrets.specs.declared.v3.seed.RapidSecrets.{RapidSecrets}
 use Rattle.stream.specs.State.{most, Answer, answered, openingOf, writeOf, finishOf, Ended, ended}
 use Rattle.stream.specs.declared.rapid_stream_hasher.Settings.{Settings}
 use Rattle.stream.specs.declared.rapid_stream_hasher.RapidStreamHasher.{RapidStreamHasher}

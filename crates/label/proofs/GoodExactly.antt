@@ -9,7 +9,7 @@ use lib.Dec.{eqb}
 use lib.ListN.{length, getD, take, drop, length-drop}
 use lib.Seq.{drop-length}
 use borrow.Author.Tests.{eq-eqb, ne-eqb, eqb-true}
-use Rattle.rapidhash.specs.Choice.{pick}
+use Rattle.secrets.specs.Choice.{pick}
 use Rattle.rapidhash.specs.Words.{word}
 use Rattle.label.specs.Label.{table, headerOf, Walked, walkOf, withTag, isField, isGood, readOf, valueOf}
 use Rattle.label.specs.Rows.{Stands, field, Reached, start, next, Reads, good}

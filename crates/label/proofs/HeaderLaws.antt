@@ -7,7 +7,7 @@ use native.Mathlib.Omega.{arith}
 use lib.Dec.{leb, ltb}
 use lib.ListN.{length, getD}
 use borrow.Author.Tests.{le-leb, lt-leb, lt-ltb, le-ltb}
-use Rattle.rapidhash.specs.Choice.{every}
+use Rattle.secrets.specs.Choice.{every}
 use Rattle.rapidhash.specs.Words.{word}
 use Rattle.rapidhash.proofs.Tests.{same-leb}
 use Rattle.label.specs.Label.{table, refusedAt, within, fieldOf, headerOf}

@@ -14,3 +14,4 @@ pub mod Written
 pub mod GoodExactly
 pub mod Finds
 pub mod Demand1
+pub mod WorkedByHand

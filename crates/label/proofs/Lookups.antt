@@ -2,7 +2,7 @@
 use Prim.Native.Nat.{ℕ}
 use mathlib.Core.Path.{_≡_, refl, sym, _∙_, ap}
 use lib.Dec.{eqb}
-use Rattle.rapidhash.specs.Choice.{pick}
+use Rattle.secrets.specs.Choice.{pick}
 use Rattle.label.specs.Numbers.{Told, toldRefusal, toldLookup, toldReading, toldPrinted}
 use Rattle.label.specs.declared.field.Why.{Why}
 use Rattle.label.specs.declared.field.Why.the-variants.{TooLong, Cut, NoSuchTag, NotAbove, BadLength, Missing, NotListed}

@@ -5,7 +5,7 @@ use mathlib.Core.Bool.{Bool, true, false}
 use mathlib.Core.List.{List, [], _∷_}
 use lib.ListN.{length}
 use borrow.Author.Tests.{le-leb, lt-leb}
-use Rattle.rapidhash.specs.Choice.{every}
+use Rattle.secrets.specs.Choice.{every}
 use Rattle.label.specs.Label.{badAt, walkOf, withTag, isField, isGood, complete, readOf}
 use Rattle.label.specs.declared.field.Why.the-variants.{TooLong, Missing}
 use Rattle.label.specs.declared.field.Refusal.{Refusal}

@@ -4,7 +4,7 @@ use mathlib.Core.Path.{_≡_}
 use native.Mathlib.Omega.{arith}
 use lib.Dec.{leb}
 use borrow.Author.Tests.{le-leb, lt-leb, ne-eqb}
-use Rattle.rapidhash.specs.Choice.{pick}
+use Rattle.secrets.specs.Choice.{pick}
 use Rattle.label.specs.Label.{lengths, noField, table}
 
 -- past tag 4 only the fields for later use are left

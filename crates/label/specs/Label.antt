@@ -7,10 +7,10 @@ use mathlib.Core.Path.{_≡_}
 use denote.Ref.{RefT, ptr, now}
 use lib.Dec.{eqb, leb, ltb}
 use lib.ListN.{length, getD, take, drop}
-use Rattle.rapidhash.specs.Choice.{pick, every}
+use Rattle.secrets.specs.Choice.{pick, every}
 use Rattle.rapidhash.specs.Words.{word}
 use Rattle.rapidhash.specs.Hash.{hashOf}
-use Rattle.rapidhash.specs.declared.v3.seed.RapidSecrets.{RapidSecrets}
+use Rattle.secrets.specs.declared.v3.seed.RapidSecrets.{RapidSecrets}
 use Rattle.label.specs.declared.field.Why.{Why}
 use Rattle.label.specs.declared.field.Why.the-variants.{TooLong, Cut, NoSuchTag, NotAbove, BadLength, Missing, NotListed}
 use Rattle.label.specs.declared.field.Refusal.{Refusal}

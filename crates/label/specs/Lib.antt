@@ -2,3 +2,4 @@ pub mod Label
 pub mod Numbers
 pub mod Rows
 pub mod Good
+pub mod Worked

@@ -13,7 +13,7 @@ use crate::finding::value_of;
 use crate::reading::Reading;
 use crate::reading::field_with;
 use crate::reading::read;
-use rapidhash::v3::seed::RapidSecrets;
+use secrets::v3::seed::RapidSecrets;
 use stream::rapid_stream_hasher::Finished;
 use stream::rapid_stream_hasher::RapidStreamHasher;
 

@@ -14,7 +14,7 @@ use label::fingerprint::fingerprint;
 use label::reading::Reading;
 use label::reading::read;
 use libc::STDOUT_FILENO;
-use rapidhash::v3::seed::RapidSecrets;
+use secrets::v3::seed::RapidSecrets;
 use stream::rapid_stream_hasher::Finished;
 use stream::rapid_stream_hasher::RapidStreamHasher;
 

@@ -2,7 +2,7 @@
 ghost use mathlib.Core.Path.{_≡_};
 ghost use Prim.Native.Nat.{_+_, _*_, _<_, _≤_};
 ghost use lib.ListN.{length};
-use rapidhash::v3::seed::RapidSecrets;
+use secrets::v3::seed::RapidSecrets;
 
 // The bytes that a word stands for, at the front of an array with room for a record that is too long.
 pub struct Bytes {

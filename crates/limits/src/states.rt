@@ -1,6 +1,6 @@
 // States made by hand. Most are such that no calls lead to them: the contracts speak of those too.
 ghost use Prim.Native.Nat.{_<_};
-use rapidhash::v3::seed::RapidSecrets;
+use secrets::v3::seed::RapidSecrets;
 use stream::rapid_stream_hasher::RapidStreamHasher;
 use stream::rapid_stream_hasher::Settings;
 

@@ -12,7 +12,7 @@ use lib.Seq.{take-all}
 use borrow.Author.Tests.{lt-ltb, le-ltb, le-leb, lt-leb, eq-eqb, ne-eqb}
 use Rattle.rapidhash.specs.Words.{word}
 use Rattle.rapidhash.specs.Hash.{chunks, mixedOf, joined, turns, tail, tailEnds, reachedOf, longEnds, endsOf}
-use Rattle.rapidhash.specs.declared.v3.seed.RapidSecrets.{RapidSecrets}
+use Rattle.secrets.specs.declared.v3.seed.RapidSecrets.{RapidSecrets}
 use Rattle.rapidhash.specs.declared.v3.lanes.Mixed.{Mixed}
 use Rattle.rapidhash.specs.declared.v3.rapid_const.Reached.{Reached}
 use Rattle.rapidhash.specs.declared.v3.rapid_const.Ends.{Ends}

@@ -8,7 +8,7 @@ use denote.Ref.{RefT}
 use native.Mathlib.Omega.{arith}
 use lib.ListN.{length}
 use Rattle.rapidhash.specs.Hash.{reachedOf, longEnds, endsOf, hashOf}
-use Rattle.rapidhash.specs.declared.v3.seed.RapidSecrets.{RapidSecrets}
+use Rattle.secrets.specs.declared.v3.seed.RapidSecrets.{RapidSecrets}
 use Rattle.rapidhash.proofs.Classes.{reached-none}
 use Rattle.rapidhash.proofs.v3.rapid_const.rapidhash_v3_inline.Reads as inline
 

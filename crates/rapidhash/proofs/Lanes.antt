@@ -1,4 +1,4 @@
--- Lane by lane: the first j lanes of a chunk's step, and of their XOR, and one more. Assumes nothing.
+-- Lane by lane: two words into a lane, the first j lanes of a chunk's step and of their XOR, and one more. Assumes nothing.
 use Prim.Native.Nat.{ℕ, zero, suc, _+_, _*_, _≤_, _<_}
 use mathlib.Core.Path.{_≡_, refl, _∙_, ap}
 use mathlib.Core.Logic.{_≢_}
@@ -10,7 +10,15 @@ use lib.Bits.{bitXor}
 use lib.ListN.{length, getD, take, set, length-set}
 use lib.Seq.{getD-set-other}
 use borrow.Author.Tests.{le-leb, lt-leb}
+use Rattle.secrets.specs.Mix.{mix}
+use Rattle.rapidhash.specs.Words.{word}
 use Rattle.rapidhash.specs.Hash.{mixPair, chunkStep, firstOf, joined}
+
+-- two words at a place into x
+pub pair-words : (p : Bool) (s : List ℕ) (at t x : ℕ) {u v y : ℕ} → u ≡ word 8 s at → v ≡ word 8 s (at + 8)
+    → y ≡ mix p (bitXor u t) (bitXor v x) → y ≡ mixPair p s at t x
+unfolding mixPair
+pair-words p s at t x eu ev ey = rw (← eu, ← ev) ey
 
 -- what holds of the first j holds of all n, once j is no less
 at-end : {A : Type 0} (f : ℕ → A) {x : A} {j n : ℕ} → j ≤ n → n ≤ j → x ≡ f j → x ≡ f n

@@ -1,14 +1,10 @@
-pub mod Chain
 pub mod Chunks
 pub mod Classes
 pub mod Demand1
 pub mod Demand2
-pub mod Folded
 pub mod Lanes
-pub mod Product
 pub mod ReadLaws
 pub mod Steps
 pub mod Tests
 pub mod Words
-pub mod WorkedByHand
 pub mod Zeros

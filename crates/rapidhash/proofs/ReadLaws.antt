@@ -6,8 +6,8 @@ use mathlib.Core.List.{List}
 use lib.Dec.{leb}
 use lib.ListN.{length}
 use borrow.Author.Tests.{leb-true}
-use Rattle.rapidhash.specs.Words.{word}
-use Rattle.rapidhash.specs.Numbers.{done, pastEnd, readOf}
+use Rattle.secrets.specs.Numbers.{done, pastEnd}
+use Rattle.rapidhash.specs.Words.{word, readOf}
 
 module _ (n : ℕ) (s : List ℕ) (i : ℕ) {t : Bool} (e : t ≡ leb (i + n) (length s)) where
   -- where the test holds the word is there

@@ -6,10 +6,10 @@ use mathlib.Core.List.{List, [], _∷_}
 use lib.Bits.{bitXor}
 use lib.ListN.{length, getD}
 use borrow.Author.Tests.{lt-ltb, le-ltb}
-use Rattle.rapidhash.specs.Mix.{mum}
+use Rattle.secrets.specs.Mix.{mum}
 use Rattle.rapidhash.specs.Hash.{mixPair, tail, avalanched, endsOf, lastOf, hashOf}
-use Rattle.rapidhash.specs.declared.util.mix.Mum.{Mum}
-use Rattle.rapidhash.specs.declared.v3.seed.RapidSecrets.{RapidSecrets}
+use Rattle.secrets.specs.declared.util.mix.Mum.{Mum}
+use Rattle.secrets.specs.declared.v3.seed.RapidSecrets.{RapidSecrets}
 use Rattle.rapidhash.specs.declared.v3.rapid_const.Ends.{Ends}
 
 module _ (p : Bool) (s : List ℕ) (j : ℕ) where

@@ -1,20 +1,24 @@
 -- Words of bytes: how a word falls into shorter ones, and where it stands in a part. Assumes nothing.
 use Prim.Native.Nat.{ℕ, zero, suc, _+_, _*_, _^_, _≤_, _<_}
 use mathlib.Core.Path.{_≡_, refl, ap}
-use mathlib.Core.List.{List}
+use mathlib.Core.List.{List, [], _∷_}
 use native.Mathlib.Omega.{arith}
 use lib.ListN.{getD, take, drop}
 use lib.Seq.{getD-take, getD-drop}
 use Rattle.rapidhash.specs.Words.{word}
 
--- a word of 4 bytes, byte by byte, and its bound
-pub word-bytes : (s : List ℕ) (i : ℕ) {b₀ b₁ b₂ b₃ : ℕ} → (b₀ ≡ getD s i 0) × (b₀ < 256) → (b₁ ≡ getD s (i + 1) 0) × (b₁ < 256)
-    → (b₂ ≡ getD s (i + 2) 0) × (b₂ < 256) → (b₃ ≡ getD s (i + 3) 0) × (b₃ < 256)
-    → (b₀ + b₁ * 0x100 + b₂ * 0x1_0000 + b₃ * 0x100_0000 ≡ word 4 s i) × (b₀ + b₁ * 0x100 + b₂ * 0x1_0000 + b₃ * 0x100_0000 < 2 ^ 32)
+-- four bytes weighed by their places are a word, with its bound
+pub word-bytes : (b₀ b₁ b₂ b₃ : ℕ) {w₀ w₁ w₂ w₃ : ℕ} → (w₀ ≡ b₀) × (w₀ < 256) → (w₁ ≡ b₁) × (w₁ < 256) → (w₂ ≡ b₂) × (w₂ < 256) → (w₃ ≡ b₃) × (w₃ < 256)
+    → (w₀ + w₁ * 0x100 + w₂ * 0x1_0000 + w₃ * 0x100_0000 ≡ word 4 (b₀ ∷ b₁ ∷ b₂ ∷ b₃ ∷ []) 0) × (w₀ + w₁ * 0x100 + w₂ * 0x1_0000 + w₃ * 0x100_0000 < 2 ^ 32)
 unfolding word
-word-bytes s i h₀ h₁ h₂ h₃ =
+word-bytes b₀ b₁ b₂ b₃ h₀ h₁ h₂ h₃ = omega arith
+
+-- the four bytes at a place are the word there
+pub word-at : (s : List ℕ) (i : ℕ) → word 4 (getD s i 0 ∷ getD s (i + 1) 0 ∷ getD s (i + 2) 0 ∷ getD s (i + 3) 0 ∷ []) 0 ≡ word 4 s i
+unfolding word
+word-at s i =
     let e : getD s (i + 0) 0 ≡ getD s i 0 = ap (λ (k : ℕ). getD s k 0) (omega arith) in
-    omega arith
+    rw e
 
 -- a word of 8 bytes from its two halves
 pub word-halves : (s : List ℕ) (i : ℕ) → word 4 s i + word 4 s (i + 4) * 2 ^ 32 ≡ word 8 s i

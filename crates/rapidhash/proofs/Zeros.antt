@@ -11,7 +11,7 @@ use lib.Dec.{eqb}
 use lib.ListN.{length, getD, take, drop, length-drop}
 use lib.Seq.{drop-cons, drop-length, take-all}
 use borrow.Author.Tests.{eq-eqb, ne-eqb}
-use Rattle.rapidhash.specs.Choice.{pick, allAre}
+use Rattle.secrets.specs.Choice.{pick, allAre}
 use Rattle.rapidhash.specs.Words.{word}
 
 -- from a place on: the byte there, and the rest

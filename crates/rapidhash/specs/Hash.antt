@@ -5,10 +5,10 @@ use mathlib.Core.List.{List, [], _∷_, map}
 use lib.Bits.{bitOr, bitXor}
 use lib.Dec.{eqb, leb, ltb}
 use lib.ListN.{length, getD, take, drop, set, replicate}
-use Rattle.rapidhash.specs.Choice.{pick}
+use Rattle.secrets.specs.Choice.{pick}
 use Rattle.rapidhash.specs.Words.{word}
-use Rattle.rapidhash.specs.Mix.{mum, mix}
-use Rattle.rapidhash.specs.declared.v3.seed.RapidSecrets.{RapidSecrets}
+use Rattle.secrets.specs.Mix.{mum, mix}
+use Rattle.secrets.specs.declared.v3.seed.RapidSecrets.{RapidSecrets}
 use Rattle.rapidhash.specs.declared.v3.lanes.Size.{Size}
 use Rattle.rapidhash.specs.declared.v3.lanes.Size.the-variants.{Full, Micro, Nano}
 use Rattle.rapidhash.specs.declared.v3.lanes.Mixed.{Mixed}

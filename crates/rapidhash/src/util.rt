@@ -1,2 +1,1 @@
-pub mod mix;
 pub mod read;

@@ -1,3 +1,2 @@
 pub mod lanes;
 pub mod rapid_const;
-pub mod seed;

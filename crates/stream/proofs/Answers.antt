@@ -16,7 +16,7 @@ use Rattle.stream.proofs.Sound.{sound-facts}
 use Rattle.stream.proofs.Seven.{lanes, width, few-lanes, some-lanes}
 
 module _ (h : RapidStreamHasher) (s : List ℕ) (t : Bool) (e : t ≡ sound lanes h) where
-  -- a state that is not sound lanes comes back as it was
+  -- a state that is not sound comes back as it was
   pub write-unsound : not t ≡ true → answered (record { state = h; outcome = NotSound }) ≡ writeOf lanes h s
   write-unsound k = sym (refused-not-sound lanes some-lanes few-lanes h s (sym e ∙ not-true t k))
 
@@ -37,12 +37,12 @@ module _ (h : RapidStreamHasher) (s : List ℕ) (t : Bool) (e : t ≡ sound lane
       pub has-room : length s ≤ r → (sound lanes h ≡ true) × (sofar lanes h + length s ≤ most)
       has-room l = (is-sound, omega (arith, is-short))
 
-      -- and all are taken lanes
+      -- and all are taken
       pub write-took : length s ≤ r → {n : RapidStreamHasher} → n ≡ taken lanes h s → answered (record { state = n; outcome = Took }) ≡ writeOf lanes h s
       write-took l en = rw en (sym (taken-when lanes some-lanes few-lanes h s is-sound (has-room l .1)))
 
 module _ (h : RapidStreamHasher) (t : Bool) (e : t ≡ sound lanes h) where
-  -- finish on a sound lanes state
+  -- finish on a sound state
   pub finish-done : t ≡ true → {v : ℕ} → v ≡ streamHash lanes (h .settings .avalanche) (h .settings .protected) (h .settings .secrets) (view h)
       → ended (Hash v (h .count)) ≡ finishOf lanes h
   unfolding finishOf

@@ -9,7 +9,7 @@ use lib.Dec.{eqb}
 use borrow.Author.Tests.{eqb-true}
 use lib.ListN.{length, take, drop, replicate, length-append, length-drop, drop-of-length-le, take-append-drop}
 use lib.Seq.{take-length, drop-drop, take-add}
-use Rattle.rapidhash.specs.Choice.{pick, allAre}
+use Rattle.secrets.specs.Choice.{pick, allAre}
 use Rattle.stream.proofs.Clauses.{to-end}
 use Rattle.stream.proofs.Sound.{both}
 

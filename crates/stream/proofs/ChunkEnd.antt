@@ -20,10 +20,10 @@ use Rattle.stream.proofs.Slide.{slide-length}
 use Rattle.stream.proofs.Seven.{lanes, width}
 
 -- a buffer of zeros with 16 bytes and then some more
-two-parts : (a c e b : List ℕ) → length a ≡ 16 → e ≡ take 0 (replicate 128 0) ++ a ++ drop (0 + length a) (replicate 128 0)
+two-parts : (a c e b z : List ℕ) → length a ≡ 16 → z ≡ replicate 128 0 → e ≡ take 0 z ++ a ++ drop (0 + length a) z
     → b ≡ take 16 e ++ c ++ drop (16 + length c) e → b ≡ a ++ c ++ replicate (width - length c) 0
-two-parts a c e b la he hb =
-    let e′ : e ≡ a ++ replicate width 0 = he ∙ rw la in
+two-parts a c e b z la hz he hb =
+    let e′ : e ≡ a ++ replicate width 0 = he ∙ rw (hz, la) in
     let behind : drop (16 + length c) (a ++ replicate width 0) ≡ replicate (width - length c) 0 =
     rw (← la) (drop-append-add a (replicate width 0) (length c)) ∙ drop-zeros (length c) width in
     hb ∙ rw (e′, take-at a (replicate width 0) 16 la, behind)
@@ -51,17 +51,17 @@ module _ {x : Mixed} (p : Bool) (sec l s : List ℕ) (e : x ≡ mixedOf lanes p 
   at-count k m h = omega (arith, at-is, at-within)
 
   -- the state is that which holds the stream fed with the data
-  pub chunk-end : (o : Settings) (prev : List ℕ) (k : ℕ) {a f b : List ℕ} → length prev ≡ 16
-      → a ≡ slide prev (take (x .at) s) → f ≡ take 0 (replicate 128 0) ++ a ++ drop (0 + length a) (replicate 128 0)
+  pub chunk-end : (o : Settings) (prev : List ℕ) (k : ℕ) (z : List ℕ) {a f b : List ℕ} → length prev ≡ 16
+      → z ≡ replicate 128 0 → a ≡ slide prev (take (x .at) s) → f ≡ take 0 z ++ a ++ drop (0 + length a) z
       → b ≡ take 16 f ++ take (length s - x .at) (drop (x .at) s) ++ drop (16 + length (take (length s - x .at) (drop (x .at) s))) f
       → record { settings = o; lanes = x .lanes; count = k + x .at / width; waiting = length s - x .at; buffer = b }
       ≡ hold o (feed lanes p sec (record { lanes = l; count = k; prev = prev; rest = [] }) s)
   unfolding hold mixedOf
-  chunk-end o prev k {a} {f} {b} hp ha hf hb =
+  chunk-end o prev k z {a} {f} {b} hp hz ha hf hb =
       let c = chunks width (length s) in
       let left : take (length s - x .at) (drop (x .at) s) ≡ drop (x .at) s = to-end s (x .at) (length s) refl in
       let la : length a ≡ 16 = ap length ha ∙ slide-length prev (take (x .at) s) ∙ hp in
-      let buf : b ≡ a ++ drop (x .at) s ++ replicate (width - length (drop (x .at) s)) 0 = two-parts a (drop (x .at) s) f b la hf (hb ∙ rw left) in
+      let buf : b ≡ a ++ drop (x .at) s ++ replicate (width - length (drop (x .at) s)) 0 = two-parts a (drop (x .at) s) f b z la hz hf (hb ∙ rw left) in
       let mixed : x .lanes ≡ lanesAfter lanes p sec c l s = ap (λ (y : Mixed). y .lanes) e in
       let many : k + x .at / width ≡ k + c = omega (arith, at-is) in
       let waits : length s - x .at ≡ length (drop (x .at) s) = sym (length-drop (x .at) s) in

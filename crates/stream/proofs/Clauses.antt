@@ -9,7 +9,7 @@ use lib.Dec.{leb, eqb}
 use lib.ListN.{length, take, drop, length-drop}
 use lib.Seq.{take-all}
 use borrow.Author.Tests.{le-leb, lt-leb, eq-eqb, ne-eqb, leb-true, not-true, not-false}
-use Rattle.rapidhash.specs.Choice.{pick, every, allAre}
+use Rattle.secrets.specs.Choice.{pick, every, allAre}
 use Rattle.rapidhash.proofs.Tests.{same-leb}
 use Rattle.stream.proofs.Sound.{both}
 use Rattle.stream.specs.State.{sofar, most, sound}
@@ -41,7 +41,7 @@ sized-is h e =
     (leb-true (h .waiting) width (b .0), leb-true (sofar lanes h) most (b .1))
 
 module _ (h : RapidStreamHasher) (t : Bool) (e : t ≡ sizedOf h) where
-  -- a state that is not sized is not sound lanes
+  -- a state that is not sized is not sound
   pub unsound-size : not t ≡ true → false ≡ sound lanes h
   unfolding sound
   unsound-size k = go (leb (h .waiting) width) (leb (sofar lanes h) most) (sym e ∙ not-true t k)

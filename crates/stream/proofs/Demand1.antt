@@ -3,7 +3,7 @@
 use Prim.Native.Nat.{ℕ}
 use mathlib.Core.Path.{_≡_, refl, _∙_, ap}
 use native.Mathlib.Omega.{arith}
-use Rattle.rapidhash.proofs.Demand1.{OneAnswer, one}
+use Rattle.secrets.proofs.Demand1.{OneAnswer, one}
 use Rattle.stream.specs.State.{Said, said, Answer, answered, Ended, ended}
 use Rattle.stream.specs.declared.rapid_stream_hasher.RapidStreamHasher.{RapidStreamHasher}
 use Rattle.stream.specs.declared.rapid_stream_hasher.Outcome.{Outcome}

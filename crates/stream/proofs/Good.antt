@@ -8,7 +8,7 @@ use native.Mathlib.Decide.{decLe}
 use native.Mathlib.Nat.{mul-suc}
 use lib.ListN.{length, length-append}
 use borrow.Author.Tests.{eq-eqb, ne-eqb}
-use Rattle.rapidhash.specs.Choice.{allAre}
+use Rattle.secrets.specs.Choice.{allAre}
 use Rattle.stream.specs.Stream.{Stream, opened, mixedIn, joinedBy, push, feed}
 use Rattle.stream.proofs.Slide.{slide-length}
 

@@ -8,9 +8,9 @@ use lib.Dec.{eqb}
 use lib.ListN.{length, take, drop, replicate, length-append, length-drop, take-append-drop}
 use lib.Seq.{take-at, drop-at, take-append-seam, length-take-le, take-add}
 use borrow.Author.Tests.{eq-eqb, eqb-true}
-use Rattle.rapidhash.specs.Choice.{allAre}
-use Rattle.stream.specs.Stream.{Stream}
-use Rattle.stream.specs.State.{most, sofar, view, hold, sound}
+use Rattle.secrets.specs.Choice.{allAre}
+use Rattle.stream.specs.Stream.{Stream, opened}
+use Rattle.stream.specs.State.{most, sofar, view, hold, openingOf, sound}
 use Rattle.stream.specs.declared.rapid_stream_hasher.Settings.{Settings}
 use Rattle.stream.specs.declared.rapid_stream_hasher.RapidStreamHasher.{RapidStreamHasher}
 use Rattle.stream.proofs.Good.{Good, total}
@@ -29,6 +29,12 @@ are-copies v [] e = refl
 are-copies v (x ∷ xs) e =
     let a = both (eqb x v) (allAre v xs) e in
     rw (eqb-true x v (a .0)) (ap (λ (l : List ℕ). v ∷ l) (are-copies v xs (a .1)))
+
+-- the stream of no bytes is held in a buffer of zeros
+pub opening-held : (o : Settings) {b : List ℕ} → b ≡ replicate 128 0
+    → record { settings = o; lanes = replicate 7 (o .secrets .seed); count = 0; waiting = 0; buffer = b } ≡ openingOf o
+unfolding openingOf hold opened
+opening-held o e = rw e
 
 module _ (o : Settings) (t : Stream) where
   -- the zeros behind the bytes that wait

@@ -5,10 +5,10 @@ use mathlib.Core.List.{List}
 use native.Mathlib.Omega.{arith}
 use lib.ListN.{length}
 use borrow.Author.Tests.{le-leb}
-use Rattle.rapidhash.specs.Words.{word}
-use Rattle.rapidhash.specs.Numbers.{Returned, returned, done, readOf}
-use Rattle.rapidhash.specs.declared.util.read.Found.{Found}
-use Rattle.rapidhash.specs.declared.util.read.Found.the-variants.{Value, PastEnd}
+use Rattle.secrets.specs.Numbers.{Returned, returned, done}
+use Rattle.rapidhash.specs.Words.{word, readOf}
+use Rattle.secrets.specs.declared.util.found.Found.{Found}
+use Rattle.secrets.specs.declared.util.found.Found.the-variants.{Value, PastEnd}
 
 module _ (n : ℕ) (s : List ℕ) (i : ℕ) (r : Found) (e : returned r ≡ readOf n s i) (h : i + n ≤ length s) where
   there : returned r ≡ done (word n s i)

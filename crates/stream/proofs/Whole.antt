@@ -10,7 +10,7 @@ use lib.Seq.{getD-drop}
 use borrow.Author.Tests.{lt-ltb, ne-eqb}
 use Rattle.rapidhash.specs.Words.{word}
 use Rattle.rapidhash.specs.Hash.{chunks, mixedOf, reachedOf, longEnds, endsOf, lastOf, hashOf}
-use Rattle.rapidhash.specs.declared.v3.seed.RapidSecrets.{RapidSecrets}
+use Rattle.secrets.specs.declared.v3.seed.RapidSecrets.{RapidSecrets}
 use Rattle.rapidhash.proofs.Chunks.{chunks-more}
 use Rattle.rapidhash.proofs.Classes.{class-long}
 use Rattle.rapidhash.proofs.Words.{word-drop}

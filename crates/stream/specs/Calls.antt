@@ -4,7 +4,7 @@ use mathlib.Core.Bool.{Bool}
 use mathlib.Core.List.{List, [], _∷_, _++_}
 use lib.Dec.{leb}
 use lib.ListN.{length}
-use Rattle.rapidhash.specs.Choice.{pick}
+use Rattle.secrets.specs.Choice.{pick}
 use Rattle.rapidhash.specs.Hash.{chunks, hashOf}
 use Rattle.stream.specs.State.{most, Said, said, Ended, ended, writeOf, finishOf, resetOf}
 use Rattle.stream.specs.declared.rapid_stream_hasher.Settings.{Settings}

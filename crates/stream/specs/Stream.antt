@@ -4,10 +4,10 @@ use mathlib.Core.Bool.{Bool}
 use mathlib.Core.List.{List, [], _∷_, _++_}
 use lib.Dec.{eqb}
 use lib.ListN.{length, drop, replicate}
-use Rattle.rapidhash.specs.Choice.{pick}
+use Rattle.secrets.specs.Choice.{pick}
 use Rattle.rapidhash.specs.Words.{word}
 use Rattle.rapidhash.specs.Hash.{chunkStep, joined, tailEnds, endsOf, lastOf}
-use Rattle.rapidhash.specs.declared.v3.seed.RapidSecrets.{RapidSecrets}
+use Rattle.secrets.specs.declared.v3.seed.RapidSecrets.{RapidSecrets}
 use Rattle.rapidhash.specs.declared.v3.rapid_const.Ends.{Ends}
 
 -- a stream: its lanes, how many chunks they have taken, the 16 bytes that end the previous chunk, and the bytes that wait

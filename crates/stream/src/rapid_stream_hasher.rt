@@ -4,13 +4,12 @@ ghost use mathlib.Core.Bool.{true, false};
 ghost use mathlib.Core.List.{[], _++_};
 ghost use Prim.Native.Nat.{_+_, _-_, _*_, _<_, _≤_};
 ghost use lib.Dec.{leb};
-ghost use lib.ListN.{length, take, drop};
-ghost use Rattle.rapidhash.specs.Choice.{pick, allAre};
+ghost use lib.ListN.{length, take, drop, replicate};
+ghost use Rattle.secrets.specs.Choice.{pick, allAre};
 ghost use Rattle.rapidhash.specs.Words.{word};
 ghost use Rattle.stream.specs.Stream.{feed, streamHash, slide};
 ghost use Rattle.stream.specs.State.{view, hold, openingOf, sofar, most, sound, taken, writeOf, finishOf, resetOf};
 ghost use Rattle.stream.specs.State.{answered, ended};
-use rapidhash::util::read::Found;
 use rapidhash::util::read::all_zero;
 use rapidhash::util::read::read_u64;
 use rapidhash::v3::lanes::Size;
@@ -21,7 +20,8 @@ use rapidhash::v3::rapid_const::Ends;
 use rapidhash::v3::rapid_const::last_step;
 use rapidhash::v3::rapid_const::rapidhash_v3_inline;
 use rapidhash::v3::rapid_const::tail_steps;
-use rapidhash::v3::seed::RapidSecrets;
+use secrets::util::found::Found;
+use secrets::v3::seed::RapidSecrets;
 
 // The most chunks that a stream of at most 2^64 - 1 bytes has mixed.
 const MOST_CHUNKS: u64 = 164703072086692425;
@@ -128,8 +128,15 @@ fn opening(settings: Settings) -> RapidStreamHasher
         lanes: [seed; 7],
         count: 0,
         waiting: 0,
-        buffer: [0; 128],
+        buffer: blank(),
     }
+}
+
+// A buffer that holds nothing.
+fn blank() -> [u8; 128]
+    ensures { λ r. ⌜ r ≡ replicate 128 0 ⌝ }
+{
+    [0; 128]
 }
 
 // Whether a state may be gone on from.
@@ -272,7 +279,7 @@ fn from_chunk_end<'a>(
     let x = mix_chunks(data, s, lanes, Size::Full, false, settings.protected);
     let at = x.at;
     let next = x.lanes;
-    let ended = put([0; 128], 0, last_sixteen(prev, data, at));
+    let ended = put(blank(), 0, last_sixteen(prev, data, at));
     RapidStreamHasher {
         settings,
         lanes: next,

@@ -2,18 +2,14 @@
 // reads take any offset and answer whether the word is there; the hashes read by word8 and word4, whose range the
 // caller knows.
 ghost use mathlib.Core.Path.{_≡_};
+ghost use mathlib.Core.List.{[], _∷_};
 ghost use Prim.Native.Nat.{_+_, _^_, _<_, _≤_};
 ghost use lib.Dec.{leb};
 ghost use lib.ListN.{length};
-ghost use Rattle.rapidhash.specs.Choice.{allAre};
-ghost use Rattle.rapidhash.specs.Words.{word};
-ghost use Rattle.rapidhash.specs.Numbers.{returned, readOf};
-
-// What a look-up by place answers.
-pub enum Found {
-    Value(u64),
-    PastEnd,
-}
+ghost use Rattle.secrets.specs.Choice.{allAre};
+ghost use Rattle.secrets.specs.Numbers.{returned};
+ghost use Rattle.rapidhash.specs.Words.{word, readOf};
+use secrets::util::found::Found;
 
 // The 8 bytes at an offset.
 pub fn read_u64(bytes: &[u8], offset: usize) -> Found
@@ -87,10 +83,14 @@ pub(crate) fn word4(bytes: &[u8], at: usize) -> u64
     requires { ⌜ at + 4 ≤ length (now bytes) ⌝ }
     ensures { λ r. ⌜ (r ≡ word 4 (now (bytes .entry)) at) × (r < 2 ^ 32) ⌝ }
 {
-    wide(bytes[at])
-        + wide(bytes[at + 1]) * 0x100
-        + wide(bytes[at + 2]) * 0x1_0000
-        + wide(bytes[at + 3]) * 0x100_0000
+    weighed(bytes[at], bytes[at + 1], bytes[at + 2], bytes[at + 3])
+}
+
+// Four bytes as a word, the least significant first.
+fn weighed(b0: u8, b1: u8, b2: u8, b3: u8) -> u64
+    ensures { λ r. ⌜ (r ≡ word 4 (b0 ∷ b1 ∷ b2 ∷ b3 ∷ []) 0) × (r < 2 ^ 32) ⌝ }
+{
+    wide(b0) + wide(b1) * 0x100 + wide(b2) * 0x1_0000 + wide(b3) * 0x100_0000
 }
 
 // A byte as a 64-bit number.

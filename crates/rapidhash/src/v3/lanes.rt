@@ -4,8 +4,8 @@ ghost use mathlib.Core.Path.{_≡_};
 ghost use Prim.Native.Nat.{_+_, _*_, _<_, _≤_};
 ghost use lib.ListN.{length};
 ghost use Rattle.rapidhash.specs.Hash.{lanesOf, mixPair, chunkStep, firstOf, mixedOf, joined};
-use crate::util::mix::rapid_mix;
 use crate::util::read::word8;
+use secrets::util::mix::rapid_mix;
 
 // Which of the three hashes: 7, 5 or 3 lanes.
 pub enum Size {

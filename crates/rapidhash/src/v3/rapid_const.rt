@@ -5,10 +5,8 @@ ghost use mathlib.Core.Bool.{true, false};
 ghost use mathlib.Core.List.{[], _∷_};
 ghost use Prim.Native.Nat.{_<_};
 ghost use lib.ListN.{length};
-ghost use Rattle.rapidhash.specs.Secrets.{seedCpp};
+ghost use Rattle.secrets.specs.Secrets.{seedCpp};
 ghost use Rattle.rapidhash.specs.Hash.{lanesOf, tail, reachedOf, longEnds, endsOf, avalanched, lastOf, hashOf};
-use crate::util::mix::rapid_mix;
-use crate::util::mix::rapid_mum;
 use crate::util::read::wide;
 use crate::util::read::word4;
 use crate::util::read::word8;
@@ -17,7 +15,9 @@ use crate::v3::lanes::join;
 use crate::v3::lanes::lane_count;
 use crate::v3::lanes::mix_chunks;
 use crate::v3::lanes::mix_pair;
-use crate::v3::seed::RapidSecrets;
+use secrets::util::mix::rapid_mix;
+use secrets::util::mix::rapid_mum;
+use secrets::v3::seed::RapidSecrets;
 
 // The seed that whole chunks leave, and the place that they reach.
 pub struct Reached {

@@ -7,30 +7,34 @@ use Rattle.stream.proofs.rapid_stream_hasher.from_chunk_end.Statement.{
 use Rattle.stream.proofs.rapid_stream_hasher.from_chunk_end.Tie as tie
 
 last-sixteen-requires : tie.Need-last-sixteen-requires
-last-sixteen-requires c κs = (c .before .before .before .before .before .pre .0, at-within _ _ _ _ (c .before .mix-chunks .ensures), at-steps _ _ _ _ (c .before .mix-chunks .ensures))
+last-sixteen-requires c κs = (c .before .before .before .before .before .before .pre .0, at-within _ _ _ _ (c .before .before .mix-chunks .ensures), at-steps _ _ _ _ (c .before .before .mix-chunks .ensures))
 
 put-requires : tie.Need-put-requires
-put-requires c κs = last-fits _ _ _ _ (c .before .before .mix-chunks .ensures) (now (c .before .before .before .before .before .before .args .prev)) _ (c .before .before .before .before .before .before .pre .0) (c .last-sixteen .ensures)
+put-requires c κs = last-fits _ _ _ _ (c .before .before .before .mix-chunks .ensures) (now (c .before .before .before .before .before .before .before .args .prev)) _ (c .before .before .before .before .before .before .before .pre .0) (c .last-sixteen .ensures)
 
 sub-t18 : tie.Need-sub-t18
-sub-t18 c = at-within _ _ _ _ (c .before .before .before .mix-chunks .ensures)
+sub-t18 c = at-within _ _ _ _ (c .before .before .before .before .mix-chunks .ensures)
 
 sub-put : tie.Need-sub-put
-sub-put c = at-within _ _ _ _ (c .before .before .before .mix-chunks .ensures)
+sub-put c = at-within _ _ _ _ (c .before .before .before .before .mix-chunks .ensures)
 
 part-put-start : tie.Need-part-put-start
-part-put-start c = let h = at-within _ _ _ _ (c .before .before .before .mix-chunks .ensures) in search needs
+part-put-start c = let h = at-within _ _ _ _ (c .before .before .before .before .mix-chunks .ensures) in search needs
 
 put-requires-2 : tie.Need-put-requires-2
-put-requires-2 c κs = left-fits _ _ _ _ (c .before .before .before .before .mix-chunks .ensures)
+put-requires-2 c κs = left-fits _ _ _ _ (c .before .before .before .before .before .mix-chunks .ensures)
 
 returns : tie.Need-returns
-returns c = chunk-end _ _ _ _ (c .before .before .before .before .before .mix-chunks .ensures) (c .before .before .before .before .before .before .before .before .before .args .settings) (now (c .before .before .before .before .before .before .before .before .before .args .prev)) (c .before .before .before .before .before .before .before .before .before .args .count) (c .before .before .before .before .before .before .before .before .before .pre .0) (c .before .before .before .last-sixteen .ensures) (c .before .before .put .ensures) (c .put2 .ensures)
+returns c =
+    let a = c .before .before .before .before .before .before .before .before .before .before .args in
+    chunk-end _ _ _ _ (c .before .before .before .before .before .before .mix-chunks .ensures) (a .settings) (now (a .prev)) (a .count) (c .before .before .before .before .blank .result)
+    (c .before .before .before .before .before .before .before .before .before .before .pre .0) (c .before .before .before .before .blank .ensures) (c .before .before .before .last-sixteen .ensures) (c .before .before .put .ensures) (c .put2 .ensures)
 
 pub from-chunk-end-spec : {M : Type 1} → statement M
 from-chunk-end-spec =
     tie.close
     (tie.spec
+    (λ c κs. search needs)
     (λ c κs. search needs)
     last-sixteen-requires
     put-requires

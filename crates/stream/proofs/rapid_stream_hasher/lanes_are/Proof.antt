@@ -4,7 +4,7 @@ use mathlib.Core.Path.{_≡_}
 use borrow.Author.Needs.{needs}
 use native.Mathlib.Omega.{arith}
 use lib.ListN.{length, drop}
-use Rattle.rapidhash.specs.Choice.{allAre}
+use Rattle.secrets.specs.Choice.{allAre}
 use Rattle.rapidhash.proofs.Zeros.{all-next, all-not, all-end}
 use Rattle.stream.proofs.rapid_stream_hasher.lanes_are.Statement.{statement}
 use Rattle.stream.proofs.rapid_stream_hasher.lanes_are.Tie as tie

@@ -5,7 +5,7 @@ use denote.Ref.{now}
 use borrow.Author.Needs.{needs}
 use native.Mathlib.Omega.{arith}
 use lib.ListN.{length, drop}
-use Rattle.rapidhash.specs.Choice.{allAre}
+use Rattle.secrets.specs.Choice.{allAre}
 use Rattle.rapidhash.proofs.Zeros.{word-next, word-not, all-rest}
 use Rattle.rapidhash.proofs.util.read.all_zero.Statement.{statement}
 use Rattle.rapidhash.proofs.util.read.all_zero.Tie as tie

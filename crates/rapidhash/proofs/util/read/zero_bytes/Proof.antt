@@ -5,7 +5,7 @@ use denote.Ref.{now}
 use borrow.Author.Needs.{needs}
 use native.Mathlib.Omega.{arith}
 use lib.ListN.{length, drop}
-use Rattle.rapidhash.specs.Choice.{allAre}
+use Rattle.secrets.specs.Choice.{allAre}
 use Rattle.rapidhash.proofs.Zeros.{all-next, all-not, all-end}
 use Rattle.rapidhash.proofs.util.read.zero_bytes.Statement.{statement}
 use Rattle.rapidhash.proofs.util.read.zero_bytes.Tie as tie

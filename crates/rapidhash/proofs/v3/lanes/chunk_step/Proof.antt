@@ -19,7 +19,7 @@ unfolding chunkStep
 loop-holds c = search needs
 
 loop-again : tie.Need-loop-again Inv-loop μ-loop
-loop-again c = (omega arith, search step-more)
+loop-again c = (omega arith, step-more _ _ _ _ _ (c .before .before .loop .inv .1) (c .mix-pair .ensures))
 
 returns : tie.Need-returns Inv-loop μ-loop
 returns c = search step-all

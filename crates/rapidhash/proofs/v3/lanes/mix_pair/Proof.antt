@@ -1,5 +1,5 @@
 -- The rule itself. Assumes nothing.
-use Rattle.rapidhash.proofs.Folded.{pair-words}
+use Rattle.rapidhash.proofs.Lanes.{pair-words}
 use borrow.Author.Needs.{needs}
 use Rattle.rapidhash.proofs.v3.lanes.mix_pair.Statement.{statement}
 use Rattle.rapidhash.proofs.v3.lanes.mix_pair.Tie as tie

@@ -1,6 +1,8 @@
 -- One law for each arm of the `match`. Assumes nothing.
 use mathlib.Core.Path.{_∙_}
+use denote.Ref.{now}
 use native.Mathlib.Omega.{arith}
+use Rattle.rapidhash.specs.Hash.{lanesOf}
 use Rattle.rapidhash.proofs.Classes.{class-none, class-bytes, class-four, class-eight, class-long}
 use borrow.Author.Needs.{needs}
 use Rattle.rapidhash.proofs.v3.rapid_const.ends_by_length.Statement.{statement}
@@ -10,7 +12,9 @@ returns : tie.Need-returns
 returns c = class-none _ _ _ _ (c .match .keys1)
 
 returns-2 : tie.Need-returns-2
-returns-2 c = class-bytes _ _ _ _ (omega arith) (omega arith) (c .before .before .before .before .wide .ensures) (c .before .before .wide2 .ensures) (c .wide3 .ensures)
+returns-2 c =
+    let a = c .before .before .before .before .before .before .before .before .before .args in
+    class-bytes (lanesOf (a .size)) (a .protected) (a .secrets) (now (a .«data»)) (omega arith) (omega arith) (c .before .before .before .before .wide .ensures) (c .before .before .wide2 .ensures) (c .wide3 .ensures)
 
 returns-3 : tie.Need-returns-3
 returns-3 c = class-four _ _ _ _ (omega arith) (omega arith) (c .before .word4 .ensures .0) (c .word42 .ensures .0)

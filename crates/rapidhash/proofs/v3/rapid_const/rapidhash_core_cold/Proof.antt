@@ -14,7 +14,8 @@ sub-r : tie.Need-sub-r
 sub-r c = search (reached-within, needs)
 
 returns : tie.Need-returns
-returns c = search long-ends
+returns c =
+    long-ends _ _ _ _ (c .before .before .before .before .after-chunks .ensures) (c .before .before .tail-steps .ensures) (c .before .word8 .ensures) (c .word82 .ensures)
 
 pub rapidhash-core-cold-spec : {M : Type 1} → statement M
 rapidhash-core-cold-spec =

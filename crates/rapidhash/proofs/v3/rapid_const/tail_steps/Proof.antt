@@ -1,29 +1,69 @@
 -- Each `return` stands after as many steps as the rule takes. Assumes nothing.
+use denote.Ref.{now}
 use Rattle.rapidhash.proofs.Steps.{tail-go, tail-stop, tail-end}
 use borrow.Author.Needs.{needs}
 use Rattle.rapidhash.proofs.v3.rapid_const.tail_steps.Statement.{statement}
 use Rattle.rapidhash.proofs.v3.rapid_const.tail_steps.Tie as tie
 
 returns : tie.Need-returns
-returns c = search (tail-go, tail-stop) depth 9
+returns c = tail-stop _ _ 0 _ _ _ (c .if1 .taken)
 
 returns-2 : tie.Need-returns-2
-returns-2 c = search (tail-go, tail-stop) depth 9
+returns-2 c =
+    let a = c .before .before .before .before .args in
+    let s = now (a .left) in
+    tail-go (a .protected) s 0 (a .s2) _ (a .seed) (c .before .before .if1 .left) (c .before .mix-pair .ensures)
+    (tail-stop _ _ 1 _ _ _ (c .if2 .taken))
 
 returns-3 : tie.Need-returns-3
-returns-3 c = search (tail-go, tail-stop) depth 9
+returns-3 c =
+    let a = c .before .before .before .before .before .before .args in
+    let s = now (a .left) in
+    tail-go (a .protected) s 0 (a .s2) _ (a .seed) (c .before .before .before .before .if1 .left) (c .before .before .before .mix-pair .ensures)
+    (tail-go (a .protected) s 1 (a .s2) _ (c .before .before .before .mix-pair .result) (c .before .before .if2 .left) (c .before .mix-pair2 .ensures)
+    (tail-stop _ _ 2 _ _ _ (c .if3 .taken)))
 
 returns-4 : tie.Need-returns-4
-returns-4 c = search (tail-go, tail-stop) depth 9
+returns-4 c =
+    let a = c .before .before .before .before .before .before .before .before .args in
+    let s = now (a .left) in
+    tail-go (a .protected) s 0 (a .s2) _ (a .seed) (c .before .before .before .before .before .before .if1 .left) (c .before .before .before .before .before .mix-pair .ensures)
+    (tail-go (a .protected) s 1 (a .s2) _ (c .before .before .before .before .before .mix-pair .result) (c .before .before .before .before .if2 .left) (c .before .before .before .mix-pair2 .ensures)
+    (tail-go (a .protected) s 2 (a .s1) _ (c .before .before .before .mix-pair2 .result) (c .before .before .if3 .left) (c .before .mix-pair3 .ensures)
+    (tail-stop _ _ 3 _ _ _ (c .if4 .taken))))
 
 returns-5 : tie.Need-returns-5
-returns-5 c = search (tail-go, tail-stop) depth 9
+returns-5 c =
+    let a = c .before .before .before .before .before .before .before .before .before .before .args in
+    let s = now (a .left) in
+    tail-go (a .protected) s 0 (a .s2) _ (a .seed) (c .before .before .before .before .before .before .before .before .if1 .left) (c .before .before .before .before .before .before .before .mix-pair .ensures)
+    (tail-go (a .protected) s 1 (a .s2) _ (c .before .before .before .before .before .before .before .mix-pair .result) (c .before .before .before .before .before .before .if2 .left) (c .before .before .before .before .before .mix-pair2 .ensures)
+    (tail-go (a .protected) s 2 (a .s1) _ (c .before .before .before .before .before .mix-pair2 .result) (c .before .before .before .before .if3 .left) (c .before .before .before .mix-pair3 .ensures)
+    (tail-go (a .protected) s 3 (a .s1) _ (c .before .before .before .mix-pair3 .result) (c .before .before .if4 .left) (c .before .mix-pair4 .ensures)
+    (tail-stop _ _ 4 _ _ _ (c .if5 .taken)))))
 
 returns-6 : tie.Need-returns-6
-returns-6 c = search (tail-go, tail-stop) depth 9
+returns-6 c =
+    let a = c .before .before .before .before .before .before .before .before .before .before .before .before .args in
+    let s = now (a .left) in
+    tail-go (a .protected) s 0 (a .s2) _ (a .seed) (c .before .before .before .before .before .before .before .before .before .before .if1 .left) (c .before .before .before .before .before .before .before .before .before .mix-pair .ensures)
+    (tail-go (a .protected) s 1 (a .s2) _ (c .before .before .before .before .before .before .before .before .before .mix-pair .result) (c .before .before .before .before .before .before .before .before .if2 .left) (c .before .before .before .before .before .before .before .mix-pair2 .ensures)
+    (tail-go (a .protected) s 2 (a .s1) _ (c .before .before .before .before .before .before .before .mix-pair2 .result) (c .before .before .before .before .before .before .if3 .left) (c .before .before .before .before .before .mix-pair3 .ensures)
+    (tail-go (a .protected) s 3 (a .s1) _ (c .before .before .before .before .before .mix-pair3 .result) (c .before .before .before .before .if4 .left) (c .before .before .before .mix-pair4 .ensures)
+    (tail-go (a .protected) s 4 (a .s2) _ (c .before .before .before .mix-pair4 .result) (c .before .before .if5 .left) (c .before .mix-pair5 .ensures)
+    (tail-stop _ _ 5 _ _ _ (c .if6 .taken))))))
 
 returns-7 : tie.Need-returns-7
-returns-7 c = search (tail-go, tail-end) depth 9
+returns-7 c =
+    let a = c .before .before .before .before .before .before .before .before .before .before .before .before .before .args in
+    let s = now (a .left) in
+    tail-go (a .protected) s 0 (a .s2) _ (a .seed) (c .before .before .before .before .before .before .before .before .before .before .before .if1 .left) (c .before .before .before .before .before .before .before .before .before .before .mix-pair .ensures)
+    (tail-go (a .protected) s 1 (a .s2) _ (c .before .before .before .before .before .before .before .before .before .before .mix-pair .result) (c .before .before .before .before .before .before .before .before .before .if2 .left) (c .before .before .before .before .before .before .before .before .mix-pair2 .ensures)
+    (tail-go (a .protected) s 2 (a .s1) _ (c .before .before .before .before .before .before .before .before .mix-pair2 .result) (c .before .before .before .before .before .before .before .if3 .left) (c .before .before .before .before .before .before .mix-pair3 .ensures)
+    (tail-go (a .protected) s 3 (a .s1) _ (c .before .before .before .before .before .before .mix-pair3 .result) (c .before .before .before .before .before .if4 .left) (c .before .before .before .before .mix-pair4 .ensures)
+    (tail-go (a .protected) s 4 (a .s2) _ (c .before .before .before .before .mix-pair4 .result) (c .before .before .before .if5 .left) (c .before .before .mix-pair5 .ensures)
+    (tail-go (a .protected) s 5 (a .s1) _ (c .before .before .mix-pair5 .result) (c .before .if6 .left) (c .mix-pair6 .ensures)
+    (tail-end _ _ 6 _))))))
 
 pub tail-steps-spec : {M : Type 1} → statement M
 tail-steps-spec =

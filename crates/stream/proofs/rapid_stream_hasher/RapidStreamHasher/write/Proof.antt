@@ -6,13 +6,19 @@ use Rattle.stream.proofs.rapid_stream_hasher.RapidStreamHasher.write.St
 use Rattle.stream.proofs.rapid_stream_hasher.RapidStreamHasher.write.Tie as tie
 
 returns : tie.Need-returns
-returns c = search write-unsound
+returns c =
+    let a = c .before .before .before .args in
+    write-unsound (a .self) (now (a .«data»)) _ (c .before .is-sound .ensures) (c .if1 .taken)
 
 room-left-requires : tie.Need-room-left-requires
-room-left-requires c κs = search is-short
+room-left-requires c κs =
+    let a = c .before .before .before .args in
+    is-short (a .self) (now (a .«data»)) _ (c .before .is-sound .ensures) (c .if1 .left)
 
 returns-2 : tie.Need-returns-2
-returns-2 c = search write-long
+returns-2 c =
+    let a = c .before .before .before .before .before .args in
+    write-long (a .self) (now (a .«data»)) _ (c .before .before .before .is-sound .ensures) (c .before .before .if1 .left) _ (c .before .room-left .ensures) (c .if2 .taken)
 
 with-bytes-requires : tie.Need-with-bytes-requires
 with-bytes-requires c κs =
@@ -20,7 +26,9 @@ with-bytes-requires c κs =
     has-room (a .self) (now (a .«data»)) _ (c .before .before .before .is-sound .ensures) (c .before .before .if1 .left) _ (c .before .room-left .ensures) (c .if2 .left)
 
 returns-3 : tie.Need-returns-3
-returns-3 c = search write-took
+returns-3 c =
+    let a = c .before .before .before .before .before .before .args in
+    write-took (a .self) (now (a .«data»)) _ (c .before .before .before .before .is-sound .ensures) (c .before .before .before .if1 .left) _ (c .before .before .room-left .ensures) (c .before .if2 .left) (c .with-bytes .ensures)
 
 pub write-spec : {M : Type 1} → statement M
 write-spec =

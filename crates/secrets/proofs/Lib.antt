@@ -1,0 +1,4 @@
+pub mod Chain
+pub mod Demand1
+pub mod Folded
+pub mod Product

@@ -1,0 +1,4 @@
+pub mod Choice
+pub mod Mix
+pub mod Numbers
+pub mod Secrets

@@ -1,0 +1,2 @@
+pub mod found;
+pub mod mix;
