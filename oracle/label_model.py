@@ -1,9 +1,9 @@
 #!/usr/bin/env python3
-"""What the rules say of label records: a second writing, not made from the code.
+"""What the rules say of label records: a second writing, by the sentences of crates/label/specs and not by the code.
 
-    label_model.py check FILE..     compares stored `read`, `find` and `finger` cases with the rules
-    label_model.py cases FILE..     prints crates/labels/stdin: our own cases, then short ones picked from FILE..
-    label_model.py answers FILE     prints the answers that crates/labels gives to such a file
+    label_model.py check FILE..     compares the answers stored in files of cases with the rules
+    label_model.py cases FILE..     prints crates/labels/stdin: cases of our own, then short ones picked from FILE..
+    label_model.py answers FILE     prints what crates/labels has to answer to such a file
 """
 
 import sys
@@ -174,8 +174,10 @@ def main():
         print("%d differ" % len(wrong))
         sys.exit(1 if wrong else 0)
     if command == "cases":
+        print("# cases of our own: request = answer")
         for request in own_cases():
             print("%s = %s" % (request, answer(request)))
+        print("# every fourth short case of those that came with the scope")
         for request, stored in picked(paths):
             print("%s = %s" % (request, stored))
     if command == "answers":

@@ -296,4 +296,5 @@ def main():
             shown_write(name, flags, renewed, 113)
 
 
-main()
+if __name__ == "__main__":
+    main()

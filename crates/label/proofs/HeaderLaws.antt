@@ -15,6 +15,10 @@ use Rattle.label.specs.declared.field.Lengths.{Lengths}
 use Rattle.label.specs.declared.field.Why.the-variants.{Cut, NoSuchTag, NotAbove, BadLength}
 use Rattle.label.specs.declared.field.Lookup.the-variants.{At}
 
+-- two numbers, the second of which counts 256 times
+pub two-weighed : {a b : ℕ} (low high : ℕ) → a ≡ low → b ≡ high → a + b * 0x100 ≡ low + high * 0x100
+two-weighed low high e k = rw (e, k)
+
 -- a word of 2 bytes, byte by byte
 pub word-two : (s : List ℕ) (i : ℕ) → getD s i 0 + getD s (i + 1) 0 * 0x100 ≡ word 2 s i
 unfolding word

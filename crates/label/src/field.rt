@@ -82,8 +82,9 @@ pub fn lengths_of(tag: u8) -> Lengths
         2 => between(0, 1024),
         3 => between(1, 64),
         4 => between(0, 4096),
-        128..=255 => between(0, 65535),
         0 | 5..=127 => no_field(),
+        // 128 to 255, for later use
+        _ => between(0, 65535),
     }
 }
 

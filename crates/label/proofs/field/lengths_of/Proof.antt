@@ -1,5 +1,5 @@
 -- One row of the table for each arm of the `match`. Assumes nothing.
-use mathlib.Core.Path.{sym, _∙_}
+use mathlib.Core.Path.{sym, _∙_, ap}
 use mathlib.Core.Logic.{⊎-elim}
 use native.Mathlib.Omega.{arith}
 use Rattle.label.specs.Label.{table}
@@ -10,19 +10,19 @@ use Rattle.label.proofs.field.lengths_of.Tie as tie
 
 returns : tie.Need-returns
 unfolding table
-returns c = rw (c .between .ensures, c .before .match .keys1)
+returns c = c .between .ensures ∙ sym (ap table (c .before .match .keys1))
 
 returns-2 : tie.Need-returns-2
 unfolding table
-returns-2 c = rw (c .between2 .ensures, c .before .match .keys2)
+returns-2 c = c .between2 .ensures ∙ sym (ap table (c .before .match .keys2))
 
 returns-3 : tie.Need-returns-3
 unfolding table
-returns-3 c = rw (c .between3 .ensures, c .before .match .keys3)
+returns-3 c = c .between3 .ensures ∙ sym (ap table (c .before .match .keys3))
 
 returns-4 : tie.Need-returns-4
 unfolding table
-returns-4 c = rw (c .between4 .ensures, c .before .match .keys4)
+returns-4 c = c .between4 .ensures ∙ sym (ap table (c .before .match .keys4))
 
 returns-5 : tie.Need-returns-5
 returns-5 c = c .between5 .ensures ∙ sym (later-use _ (omega arith))
