@@ -1,5 +1,5 @@
 -- One law for each answer, in the order of the refusals. Assumes nothing.
-use mathlib.Core.Path.{sym, _∙_}
+use mathlib.Core.Path.{refl, sym, _∙_}
 use native.Mathlib.Omega.{arith}
 use borrow.Author.Tests.{not-true, not-false}
 use Rattle.label.proofs.HeaderLaws.{
@@ -17,19 +17,51 @@ use Rattle.label.proofs.field.field_at.Statement.{statement}
 use Rattle.label.proofs.field.field_at.Tie as tie
 
 returns : tie.Need-returns
-returns c = c .refused .ensures ∙ sym (field-no-tag _ _ _ (known-as (c .before .before .before .before .before .before .before .before .args .«record» .now) (c .before .before .before .before .before .before .before .before .args .place) (c .before .before .before .before .lengths-of .ensures) (not-true _ (c .before .if1 .taken))))
+returns c =
+    let k = c .before .before in
+    let a = k .before .before .before .before .before .before .args in
+    let row = k .before .before .lengths-of .ensures in
+    c .refused .ensures ∙ sym (field-no-tag _ _ _ (known-as (a .«record» .now) (a .place) row (not-true _ (c .before .if1 .taken))))
 
 returns-2 : tie.Need-returns-2
-returns-2 c = c .refused2 .ensures ∙ sym (field-not-above _ _ _ (known-as (c .before .before .before .before .before .before .before .before .before .args .«record» .now) (c .before .before .before .before .before .before .before .before .before .args .place) (c .before .before .before .before .before .lengths-of .ensures) (not-false _ (c .before .before .if1 .left))) (not-true _ (c .before .if2 .taken)))
+returns-2 c =
+    let k = c .before .before .before in
+    let a = k .before .before .before .before .before .before .args in
+    let row = k .before .before .lengths-of .ensures in
+    c .refused2 .ensures ∙ sym (field-not-above _ _ _ (known-as (a .«record» .now) (a .place) row (not-false _
+    (c .before .before .if1 .left))) (not-true _ (c .before .if2 .taken)))
 
 returns-3 : tie.Need-returns-3
-returns-3 c = c .refused3 .ensures ∙ sym (field-bad-length _ _ _ (known-as (c .before .before .before .before .before .before .before .before .before .before .args .«record» .now) (c .before .before .before .before .before .before .before .before .before .before .args .place) (c .before .before .before .before .before .before .lengths-of .ensures) (not-false _ (c .before .before .before .if1 .left))) (not-false _ (c .before .before .if2 .left)) (fits-as (c .before .before .before .before .before .before .before .before .before .before .args .«record» .now) (c .before .before .before .before .before .before .before .before .before .before .args .place) (c .before .before .before .before .before .before .lengths-of .ensures) (c .before .before .before .before .before .before .before .length-at .ensures) (c .before .before .before .before .before .is-within .ensures) (not-true _ (c .before .if3 .taken))))
+returns-3 c =
+    let k = c .before .before .before .before in
+    let a = k .before .before .before .before .before .before .args in
+    let row = k .before .before .lengths-of .ensures in
+    let n = k .before .before .before .length-at .ensures in
+    c .refused3 .ensures ∙ sym (field-bad-length _ _ _ (known-as (a .«record» .now) (a .place) row (not-false _
+    (c .before .before .before .if1 .left))) (not-false _ (c .before .before .if2 .left))
+    (fits-as (a .«record» .now) (a .place) row n (k .before .is-within .ensures) (not-true _ (c .before .if3 .taken))))
 
 returns-4 : tie.Need-returns-4
-returns-4 c = c .refused4 .ensures ∙ sym (field-cut _ _ _ (known-as (c .before .before .before .before .before .before .before .before .before .before .before .args .«record» .now) (c .before .before .before .before .before .before .before .before .before .before .before .args .place) (c .before .before .before .before .before .before .before .lengths-of .ensures) (not-false _ (c .before .before .before .before .if1 .left))) (not-false _ (c .before .before .before .if2 .left)) (fits-as (c .before .before .before .before .before .before .before .before .before .before .before .args .«record» .now) (c .before .before .before .before .before .before .before .before .before .before .before .args .place) (c .before .before .before .before .before .before .before .lengths-of .ensures) (c .before .before .before .before .before .before .before .before .length-at .ensures) (c .before .before .before .before .before .before .is-within .ensures) (not-false _ (c .before .before .if3 .left))) (whole-as (c .before .before .before .before .before .before .before .before .before .before .before .args .«record» .now) (c .before .before .before .before .before .before .before .before .before .before .before .args .place) (omega arith) (c .before .before .before .before .before .before .before .before .length-at .ensures) (c .before .before .before .before .before .left-from .ensures) (not-true _ (c .before .if4 .taken))))
+returns-4 c =
+    let k = c .before .before .before .before .before in
+    let a = k .before .before .before .before .before .before .args in
+    let row = k .before .before .lengths-of .ensures in
+    let n = k .before .before .before .length-at .ensures in
+    c .refused4 .ensures ∙ sym (field-cut _ _ _ (known-as (a .«record» .now) (a .place) row (not-false _
+    (c .before .before .before .before .if1 .left))) (not-false _ (c .before .before .before .if2 .left))
+    (fits-as (a .«record» .now) (a .place) row n (k .before .is-within .ensures) (not-false _ (c .before .before .if3 .left)))
+    (whole-as (a .«record» .now) (a .place) (omega arith) n (k .left-from .ensures) (not-true _ (c .before .if4 .taken))))
 
 returns-5 : tie.Need-returns-5
-returns-5 c = sym (field-whole _ _ _ (known-as (c .before .before .before .before .before .before .before .before .before .before .args .«record» .now) (c .before .before .before .before .before .before .before .before .before .before .args .place) (c .before .before .before .before .before .before .lengths-of .ensures) (not-false _ (c .before .before .before .if1 .left))) (not-false _ (c .before .before .if2 .left)) (fits-as (c .before .before .before .before .before .before .before .before .before .before .args .«record» .now) (c .before .before .before .before .before .before .before .before .before .before .args .place) (c .before .before .before .before .before .before .lengths-of .ensures) (c .before .before .before .before .before .before .before .length-at .ensures) (c .before .before .before .before .before .is-within .ensures) (not-false _ (c .before .if3 .left))) (c .before .before .before .before .before .before .before .length-at .ensures) (whole-as (c .before .before .before .before .before .before .before .before .before .before .args .«record» .now) (c .before .before .before .before .before .before .before .before .before .before .args .place) (omega arith) (c .before .before .before .before .before .before .before .length-at .ensures) (c .before .before .before .before .left-from .ensures) (not-false _ (c .if4 .left))))
+returns-5 c =
+    let k = c .before .before .before .before in
+    let a = k .before .before .before .before .before .before .args in
+    let row = k .before .before .lengths-of .ensures in
+    let n = k .before .before .before .length-at .ensures in
+    sym (field-whole _ _ _ (known-as (a .«record» .now) (a .place) row (not-false _ (c .before .before .before .if1 .left)))
+    (not-false _ (c .before .before .if2 .left)) (fits-as (a .«record» .now) (a .place) row n (k .before .is-within .ensures)
+    (not-false _ (c .before .if3 .left))) n refl (whole-as (a .«record» .now) (a .place) (omega arith) n (k .left-from .ensures)
+    (not-false _ (c .if4 .left))))
 
 pub field-at-spec : {M : Type 1} → statement M
 field-at-spec =

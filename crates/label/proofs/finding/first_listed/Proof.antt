@@ -20,14 +20,26 @@ loop-holds : tie.Need-loop-holds Inv-loop μ-loop
 loop-holds c = (omega arith, omega arith, refl)
 
 returns : tie.Need-returns Inv-loop μ-loop
-returns c = sym (c .before .before .before .before .before .before .loop .inv .2 ∙ listed-here _ (c .before .before .before .before .before .before .before .before .before .args .tags .now) (c .before .before .before .before .before .before .loop .i) (omega arith) (c .before .before .before .field-with .ensures) (c .before .found .given .1))
+returns c =
+    sym (c .before .before .before .before .before .before .loop .inv .2 ∙ listed-here _
+    (c .before .before .before .before .before .before .before .before .before .args .tags .now)
+    (c .before .before .before .before .before .before .loop .i) (omega arith) (c .before .before .before .field-with .ensures)
+    (c .before .found .given .1))
 
 loop-again : tie.Need-loop-again Inv-loop μ-loop
-loop-again c =
-    (omega arith, omega arith, c .before .before .before .before .before .loop .inv .2 ∙ listed-later _ (c .before .before .before .before .before .before .before .before .args .tags .now) (c .before .before .before .before .before .loop .i) (omega arith) (c .before .before .field-with .ensures) (c .enum-told .given .1))
+loop-again c = (
+  omega arith,
+  omega arith,
+  c .before .before .before .before .before .loop .inv .2 ∙ listed-later _
+      (c .before .before .before .before .before .before .before .before .args .tags .now)
+      (c .before .before .before .before .before .loop .i) (omega arith) (c .before .before .field-with .ensures)
+      (c .enum-told .given .1),
+)
 
 returns-2 : tie.Need-returns-2 Inv-loop μ-loop
-returns-2 c = c .not-listed .ensures ∙ sym (c .before .before .loop .inv .2 ∙ listed-none _ (c .before .before .before .before .before .args .tags .now) (c .before .before .loop .i) (omega arith))
+returns-2 c =
+    c .not-listed .ensures ∙ sym (c .before .before .loop .inv .2 ∙ listed-none _
+    (c .before .before .before .before .before .args .tags .now) (c .before .before .loop .i) (omega arith))
 
 pub first-listed-spec : {M : Type 1} → statement M
 first-listed-spec =

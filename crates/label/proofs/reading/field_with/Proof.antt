@@ -19,21 +19,31 @@ loop-holds : tie.Need-loop-holds Inv-loop μ-loop
 loop-holds c = (omega arith, rw (walk-is-rest _))
 
 returns : tie.Need-returns Inv-loop μ-loop
-returns c = sym (c .before .before .before .before .before .before .before .loop .inv .1 ∙ tag-here _ _ _ (omega arith) (looked (c .before .before .before .before .before .header .ensures) (c .before .before .before .found .given .1)) _ (c .if1 .taken))
+returns c =
+    sym (c .before .before .before .before .before .before .before .loop .inv .1 ∙ tag-here _ _ _ (omega arith) (looked
+    (c .before .before .before .before .before .header .ensures) (c .before .before .before .found .given .1)) _ (c .if1 .taken))
 
 add-at : tie.Need-add-at Inv-loop μ-loop
 add-at c = let st = met _ _ _ (c .before .before .before .before .before .before .header .ensures) (c .before .before .before .before .found .given .1) in omega arith
 
 loop-less : tie.Need-loop-less Inv-loop μ-loop
-loop-less c = let st = met _ _ _ (c .before .before .before .before .before .before .header .ensures) (c .before .before .before .before .found .given .1) in omega arith
+loop-less c =
+    let st = met _ _ _ (c .before .before .before .before .before .before .header .ensures)
+    (c .before .before .before .before .found .given .1) in omega arith
 
 loop-again : tie.Need-loop-again Inv-loop μ-loop
 loop-again c =
-    let st = met _ _ _ (c .before .before .before .before .before .before .header .ensures) (c .before .before .before .before .found .given .1) in
-    (omega arith, c .before .before .before .before .before .before .before .before .loop .inv .1 ∙ tag-after _ _ _ (omega arith) (looked (c .before .before .before .before .before .before .header .ensures) (c .before .before .before .before .found .given .1)) _ (c .before .if1 .left))
+    let st = met _ _ _ (c .before .before .before .before .before .before .header .ensures) (c .before .before .before .before .found .given .1) in (
+      omega arith,
+      c .before .before .before .before .before .before .before .before .loop .inv .1 ∙ tag-after _ _ _ (omega arith)
+          (looked (c .before .before .before .before .before .before .header .ensures)
+          (c .before .before .before .before .found .given .1)) _ (c .before .if1 .left),
+    )
 
 returns-2 : tie.Need-returns-2 Inv-loop μ-loop
-returns-2 c = c .not-listed .ensures ∙ sym (c .before .before .before .before .before .loop .inv .1 ∙ tag-none _ _ (rest-refused _ _ _ _ (omega arith) (looked (c .before .before .before .header .ensures) (c .before .enum-told .given .1))))
+returns-2 c =
+    c .not-listed .ensures ∙ sym (c .before .before .before .before .before .loop .inv .1 ∙ tag-none _ _ (rest-refused _ _ _ _
+    (omega arith) (looked (c .before .before .before .header .ensures) (c .before .enum-told .given .1))))
 
 returns-3 : tie.Need-returns-3 Inv-loop μ-loop
 returns-3 c = c .not-listed2 .ensures ∙ sym (c .before .before .loop .inv .1 ∙ tag-none _ _ (rest-done _ _ _ (omega arith)))

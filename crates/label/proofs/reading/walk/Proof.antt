@@ -26,11 +26,16 @@ loop-less c = let st = met _ _ _ (c .before .before .before .before .header .ens
 
 loop-again : tie.Need-loop-again Inv-loop μ-loop
 loop-again c =
-    let st = met _ _ _ (c .before .before .before .before .header .ensures) (c .before .before .found .given .1) in
-    (omega arith, c .before .before .before .before .before .before .loop .inv .1 ∙ ends-after _ _ _ (omega arith) (looked (c .before .before .before .before .header .ensures) (c .before .before .found .given .1)))
+    let st = met _ _ _ (c .before .before .before .before .header .ensures) (c .before .before .found .given .1) in (
+      omega arith,
+      c .before .before .before .before .before .before .loop .inv .1 ∙ ends-after _ _ _ (omega arith) (looked
+          (c .before .before .before .before .header .ensures) (c .before .before .found .given .1)),
+    )
 
 returns : tie.Need-returns Inv-loop μ-loop
-returns c = sym (c .before .before .before .before .before .loop .inv .1 ∙ ap (λ (w : Walked). w .ends) (rest-refused _ _ _ _ (omega arith) (looked (c .before .before .before .header .ensures) (c .before .found2 .given .1))))
+returns c =
+    sym (c .before .before .before .before .before .loop .inv .1 ∙ ap (λ (w : Walked). w .ends) (rest-refused _ _ _ _ (omega arith)
+    (looked (c .before .before .before .header .ensures) (c .before .found2 .given .1))))
 
 returns-2 : tie.Need-returns-2 Inv-loop μ-loop
 returns-2 c = sym (c .before .loop .inv .1 ∙ ap (λ (w : Walked). w .ends) (rest-done _ _ _ (omega arith)))
