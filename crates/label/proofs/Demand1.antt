@@ -7,6 +7,7 @@ use Rattle.secrets.proofs.Demand1.{OneAnswer, one}
 use Rattle.label.proofs.Lookups.{lookup-apart, reading-apart, printed-apart}
 use Rattle.label.proofs.field.header.Reads as header
 use Rattle.label.proofs.field.lengths_of.Reads as lengths-of
+use Rattle.label.proofs.field.Why.number.Reads as number
 use Rattle.label.proofs.reading.read.Reads as read
 use Rattle.label.proofs.finding.find.Reads as find
 use Rattle.label.proofs.finding.part.Reads as part
@@ -17,6 +18,9 @@ header-one κ a r₁ r₂ s p q = lookup-apart r₁ r₂ (one p q)
 
 pub lengths-of-one : OneAnswer lengths-of.Post
 lengths-of-one κ a r₁ r₂ s p q = one p q
+
+pub number-one : OneAnswer number.Post
+number-one κ a r₁ r₂ s p q = one p q
 
 pub read-one : OneAnswer read.Post
 read-one κ a r₁ r₂ s p q = reading-apart r₁ r₂ (one p q)

@@ -44,20 +44,30 @@ table t =
 abbrev pub refusedAt : Why → ℕ → Lookup
 refusedAt why place = Refused (record { why = why; place = place })
 
+-- the tag, the length and the table's row of a header at a place
+abbrev pub tagAt : List ℕ → ℕ → ℕ
+tagAt s at = getD s at 0
+
+abbrev pub sizeAt : List ℕ → ℕ → ℕ
+sizeAt s at = word 2 s (at + 1)
+
+abbrev pub rowAt : List ℕ → ℕ → Lengths
+rowAt s at = table (tagAt s at)
+
 -- whether a row of the table has a length
 abbrev pub within : Lengths → ℕ → Bool
 within row n = every (leb (row .least) n ∷ leb n (row .most) ∷ [])
 
--- of a tag and a length at a place: the table must have the tag, the tag be above the one before, the length be within the limits, and the
--- value end within the record
+-- of a header at a place: the table must have the tag, the tag be above the one before, the length be within the limits, and the value end
+-- within the record
 unfoldable pub fieldOf : List ℕ → ℕ → ℕ → Lookup
 fieldOf s at before =
-    let tag = getD s at 0 in
-    let n = word 2 s (at + 1) in
-    pick (table tag .known)
-    (pick (ltb before tag)
-    (pick (within (table tag) n)
-    (pick (leb (at + 3 + n) (length s)) (At (record { tag = tag; place = at; start = at + 3; length = n })) (refusedAt Cut at))
+    pick (rowAt s at .known)
+    (pick (ltb before (tagAt s at))
+    (pick (within (rowAt s at) (sizeAt s at))
+    (pick (leb (at + 3 + sizeAt s at) (length s))
+    (At (record { tag = tagAt s at; place = at; start = at + 3; length = sizeAt s at }))
+    (refusedAt Cut at))
     (refusedAt BadLength at))
     (refusedAt NotAbove at))
     (refusedAt NoSuchTag at)

@@ -4,9 +4,8 @@ use Prim.Native.Nat.{ℕ, _+_, _≤_, _<_}
 use mathlib.Core.Path.{_≡_}
 use mathlib.Core.Bool.{true, false}
 use mathlib.Core.List.{List, [], _∷_, _++_}
-use lib.ListN.{length, getD}
-use Rattle.rapidhash.specs.Words.{word}
-use Rattle.label.specs.Label.{table, refusedAt, badAt, walkOf, notListed, withTag, isField}
+use lib.ListN.{length}
+use Rattle.label.specs.Label.{tagAt, sizeAt, rowAt, refusedAt, badAt, walkOf, notListed, withTag, isField}
 use Rattle.label.specs.declared.field.Why.the-variants.{TooLong, Cut, NoSuchTag, NotAbove, BadLength, Missing}
 use Rattle.label.specs.declared.field.Refusal.{Refusal}
 use Rattle.label.specs.declared.field.Field.{Field}
@@ -19,18 +18,18 @@ use Rattle.label.specs.declared.reading.Reading.the-variants.{Good, Refu
 -- one before. 9: else the length is outside the limits. 6: else the value ends past the record. Else it is a field
 pub data Stands (s : List ℕ) (at before : ℕ) : Lookup → Type 0 where
   headerCut : length s < at + 3 → Stands s at before (refusedAt Cut at)
-  noSuchTag : at + 3 ≤ length s → table (getD s at 0) .known ≡ false → Stands s at before (refusedAt NoSuchTag at)
-  notAbove : at + 3 ≤ length s → table (getD s at 0) .known ≡ true → getD s at 0 ≤ before
+  noSuchTag : at + 3 ≤ length s → rowAt s at .known ≡ false → Stands s at before (refusedAt NoSuchTag at)
+  notAbove : at + 3 ≤ length s → rowAt s at .known ≡ true → tagAt s at ≤ before
       → Stands s at before (refusedAt NotAbove at)
-  tooShort : at + 3 ≤ length s → table (getD s at 0) .known ≡ true → before < getD s at 0
-      → word 2 s (at + 1) < table (getD s at 0) .least → Stands s at before (refusedAt BadLength at)
-  tooLong : at + 3 ≤ length s → table (getD s at 0) .known ≡ true → before < getD s at 0
-      → table (getD s at 0) .least ≤ word 2 s (at + 1) → table (getD s at 0) .most < word 2 s (at + 1) → Stands s at before (refusedAt BadLength at)
-  valueCut : at + 3 ≤ length s → table (getD s at 0) .known ≡ true → before < getD s at 0
-      → table (getD s at 0) .least ≤ word 2 s (at + 1) → word 2 s (at + 1) ≤ table (getD s at 0) .most → length s < at + 3 + word 2 s (at + 1) → Stands s at before (refusedAt Cut at)
-  field : at + 3 ≤ length s → table (getD s at 0) .known ≡ true → before < getD s at 0
-      → table (getD s at 0) .least ≤ word 2 s (at + 1) → word 2 s (at + 1) ≤ table (getD s at 0) .most → at + 3 + word 2 s (at + 1) ≤ length s
-      → Stands s at before (At (record { tag = getD s at 0; place = at; start = at + 3; length = word 2 s (at + 1) }))
+  tooShort : at + 3 ≤ length s → rowAt s at .known ≡ true → before < tagAt s at
+      → sizeAt s at < rowAt s at .least → Stands s at before (refusedAt BadLength at)
+  tooLong : at + 3 ≤ length s → rowAt s at .known ≡ true → before < tagAt s at
+      → rowAt s at .least ≤ sizeAt s at → rowAt s at .most < sizeAt s at → Stands s at before (refusedAt BadLength at)
+  valueCut : at + 3 ≤ length s → rowAt s at .known ≡ true → before < tagAt s at
+      → rowAt s at .least ≤ sizeAt s at → sizeAt s at ≤ rowAt s at .most → length s < at + 3 + sizeAt s at → Stands s at before (refusedAt Cut at)
+  field : at + 3 ≤ length s → rowAt s at .known ≡ true → before < tagAt s at
+      → rowAt s at .least ≤ sizeAt s at → sizeAt s at ≤ rowAt s at .most → at + 3 + sizeAt s at ≤ length s
+      → Stands s at before (At (record { tag = tagAt s at; place = at; start = at + 3; length = sizeAt s at }))
 
 -- a place that fields lead to from the record's first byte, one after another, with the last one's tag and all of them
 pub data Reached (s : List ℕ) : ℕ → ℕ → List Field → Type 0 where
