@@ -47,10 +47,10 @@ module _ (s : List ℕ) (at before : ℕ) where
         unfolding fieldOf
         field-cut w = rw (known, above, fits, w)
 
-        pub field-whole : {n start : ℕ} → n ≡ word 2 s (at + 1) → start ≡ at + 3 → leb (at + 3 + word 2 s (at + 1)) (length s) ≡ true
-            → fieldOf s at before ≡ At (record { tag = getD s at 0; place = at; start = start; length = n })
+        pub field-whole : {n : ℕ} → n ≡ word 2 s (at + 1) → leb (at + 3 + word 2 s (at + 1)) (length s) ≡ true
+            → fieldOf s at before ≡ At (record { tag = getD s at 0; place = at; start = at + 3; length = n })
         unfolding fieldOf
-        field-whole e k w = rw (known, above, fits, w, e, k)
+        field-whole e w = rw (known, above, fits, w, e)
 
 -- the limits of a row
 pub too-short : (row : Lengths) (n : ℕ) → n < row .least → within row n ≡ false
@@ -122,4 +122,4 @@ module _ (s : List ℕ) (at before : ℕ) where
                 → headerOf s at before ≡ At (record { tag = getD s at 0; place = at; start = at + 3; length = word 2 s (at + 1) })
             header-field h =
                 headed
-                ∙ field-whole s at before known (lt-ltb before (getD s at 0) above) fits refl refl (le-leb (at + 3 + word 2 s (at + 1)) (length s) h)
+                ∙ field-whole s at before known (lt-ltb before (getD s at 0) above) fits refl (le-leb (at + 3 + word 2 s (at + 1)) (length s) h)

@@ -25,9 +25,9 @@ part-of s γ l =
     let n : startOf l + lengthOf l - startOf l ≡ lengthOf l = omega arith in
     record { bytes = rw n; memory = rw (add-comm (startOf l) (ptr s .1)) }
 
-pub part-field : (s : RefT (List ℕ)) (γ : ℕ) {l : Lookup} {f : Field} {start end : ℕ} → l ≡ At f → start ≡ f .start → end ≡ f .start + f .length
-    → Part s l (slPart s (start + ptr s .1) start end γ)
-part-field s γ {l} {f} e a b = rw (e, a, b) (part-of s γ (At f))
+pub part-field : (s : RefT (List ℕ)) (γ : ℕ) {l : Lookup} {f : Field} → l ≡ At f
+    → Part s l (slPart s (f .start + ptr s .1) (f .start) (f .start + f .length) γ)
+part-field s γ {l} {f} e = rw e (part-of s γ (At f))
 
 pub part-none : (s : RefT (List ℕ)) (γ : ℕ) {l : Lookup} {r : Refusal} → l ≡ Refused r → Part s l (slPart s (0 + ptr s .1) 0 0 γ)
 part-none s γ {l} {r} e = rw e (part-of s γ (Refused r))

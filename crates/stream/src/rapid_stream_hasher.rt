@@ -27,6 +27,7 @@ use secrets::v3::seed::RapidSecrets;
 const MOST_CHUNKS: u64 = 164703072086692425;
 
 // What an opening fixes.
+#[repr(C)]
 pub struct Settings {
     pub secrets: RapidSecrets,
     pub avalanche: bool,
@@ -35,6 +36,7 @@ pub struct Settings {
 
 // The state between two calls: the lanes and the number of chunks that they have taken; the bytes that wait, from
 // place 16 of the buffer on; before them the 16 that end the previous chunk.
+#[repr(C)]
 pub struct RapidStreamHasher {
     pub settings: Settings,
     pub lanes: [u64; 7],

@@ -1,5 +1,5 @@
 -- One law for each answer, in the order of the refusals. Assumes nothing.
-use mathlib.Core.Path.{refl, sym, _∙_}
+use mathlib.Core.Path.{sym, _∙_}
 use native.Mathlib.Omega.{arith}
 use borrow.Author.Tests.{not-true, not-false}
 use Rattle.label.proofs.HeaderLaws.{
@@ -58,9 +58,9 @@ returns-5 c =
     let a = k .before .before .before .before .before .before .args in
     let row = k .before .before .lengths-of .ensures in
     let n = k .before .before .before .length-at .ensures in
-    sym (field-whole _ _ _ (known-as (a .«record» .now) (a .place) row (not-false _ (c .before .before .before .if1 .left)))
+    sym (field-whole (a .«record» .now) (a .place) (a .before) (known-as (a .«record» .now) (a .place) row (not-false _ (c .before .before .before .if1 .left)))
     (not-false _ (c .before .before .if2 .left)) (fits-as (a .«record» .now) (a .place) row n (k .before .is-within .ensures)
-    (not-false _ (c .before .if3 .left))) n refl (whole-as (a .«record» .now) (a .place) (omega arith) n (k .left-from .ensures)
+    (not-false _ (c .before .if3 .left))) n (whole-as (a .«record» .now) (a .place) (omega arith) n (k .left-from .ensures)
     (not-false _ (c .if4 .left))))
 
 pub field-at-spec : {M : Type 1} → statement M

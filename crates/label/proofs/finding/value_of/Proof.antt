@@ -1,5 +1,4 @@
 -- A field's value, or nothing: the two laws of Parts. Assumes nothing.
-use mathlib.Core.Path.{refl}
 use native.Mathlib.Omega.{arith}
 use Rattle.label.proofs.Parts.{in-range, part-field, part-none}
 use borrow.Author.Needs.{needs}
@@ -13,7 +12,8 @@ part-result-end : tie.Need-part-result-end
 part-result-end c = let h = in-range _ (c .before .before .before .before .pre) (c .before .before .found .given .1) in omega arith
 
 returns : tie.Need-returns
-returns c = part-field _ _ (c .before .before .before .found .given .1) refl refl
+returns c =
+    part-field (c .before .before .before .before .before .args .«record») (c .result .given .0) (c .before .before .before .found .given .1)
 
 returns-2 : tie.Need-returns-2
 returns-2 c = part-none _ _ (c .before .enum-told .given .1)

@@ -1,0 +1,25 @@
+-- The answers of the library as the rules' own. Assumes nothing.
+use Rattle.secrets.specs.Numbers.{Returned}
+use Rattle.stream.specs.State.{Answer as Wrote, Ended}
+use Rattle.label.specs.Numbers.{Told}
+use Rattle.tulgranie.specs.declared.hashes.Value.{Value}
+use Rattle.tulgranie.specs.declared.streams.StreamWritten.{StreamWritten}
+use Rattle.tulgranie.specs.declared.streams.StreamEnded.{StreamEnded}
+use Rattle.tulgranie.specs.declared.labels.Answer.{Answer}
+
+-- a number and a value
+abbrev pub valueFor : Returned → Value
+valueFor r = record { number = r .number; value = r .value }
+
+-- an answer about a record, as what it tells
+abbrev pub toldOf : Answer → Told
+toldOf a =
+    record { number = a .number; place = a .place; tag = a .tag; start = a .start; length = a .length; fingerprint = a .fingerprint }
+
+-- a write's answer, as the stream's own
+abbrev pub answerOf : StreamWritten → Wrote
+answerOf w = record { state = w .state; says = record { number = w .number; room = w .room } }
+
+-- and finish's
+abbrev pub endedOf : StreamEnded → Ended
+endedOf e = record { number = e .number; hash = e .hash; count = e .count }

@@ -1,0 +1,3 @@
+pub mod hashes;
+pub mod labels;
+pub mod streams;

@@ -1,0 +1,101 @@
+/* The header's structs have the sizes and the offsets that the library's have. The library says what it lays out by what it
+ * answers: each struct that crosses over is filled with numbers that all differ, and every field must come back where the
+ * header has it. */
+#include "tulgranie.h"
+
+#include <stdio.h>
+#include <string.h>
+
+static int wrong = 0;
+
+static void check(bool ok, const char *what)
+{
+    if (!ok) {
+        printf("layout: %s\n", what);
+        wrong++;
+    }
+}
+
+#define SIZE(type, size) check(sizeof(type) == (size), "size of " #type)
+#define PLACE(type, field, place) check(offsetof(type, field) == (place), "place of " #field " in " #type)
+
+int main(void)
+{
+    SIZE(tulgranie_secrets, 64);
+    PLACE(tulgranie_secrets, secrets, 8);
+    SIZE(tulgranie_value, 16);
+    SIZE(tulgranie_settings, 72);
+    PLACE(tulgranie_settings, avalanche, 64);
+    PLACE(tulgranie_settings, is_protected, 65);
+    SIZE(tulgranie_stream, 272);
+    PLACE(tulgranie_stream, lanes, 72);
+    PLACE(tulgranie_stream, count, 128);
+    PLACE(tulgranie_stream, waiting, 136);
+    PLACE(tulgranie_stream, buffer, 144);
+    SIZE(tulgranie_stream_write_answer, 288);
+    PLACE(tulgranie_stream_write_answer, number, 272);
+    SIZE(tulgranie_stream_end, 24);
+    SIZE(tulgranie_answer, 48);
+    PLACE(tulgranie_answer, fingerprint, 40);
+
+    /* secrets: reseed keeps all seven where they are, and each is found by its index */
+    tulgranie_secrets s = {11, {21, 22, 23, 24, 25, 26, 27}};
+    tulgranie_secrets t = tulgranie_reseed(s);
+    check(t.seed != s.seed && memcmp(t.secrets, s.secrets, sizeof s.secrets) == 0, "secrets go over and come back");
+    for (size_t i = 0; i < 7; i++) check(tulgranie_secret(s, i).value == 21 + i, "a secret by index");
+    check(tulgranie_secret(s, 7).number == 3, "a number beside a value");
+
+    /* a state that is not sound comes back as it is, byte for byte, beside its number */
+    for (int flags = 0; flags < 4; flags++) {
+        tulgranie_stream h;
+        memset(&h, 0, sizeof h);
+        h.settings.secrets = s;
+        h.settings.avalanche = flags & 1;
+        h.settings.is_protected = flags & 2;
+        for (int i = 0; i < 7; i++) h.lanes[i] = 31 + (uint64_t)i;
+        h.count = 41;
+        h.waiting = 113;
+        for (int i = 0; i < 128; i++) h.buffer[i] = (uint8_t)(i + 1);
+        tulgranie_stream_write_answer a = tulgranie_stream_written(h, (const uint8_t *)"x", 1);
+        check(a.number == 1 && a.room == 0, "a refused write's number");
+        check(memcmp(&a.state.settings.secrets, &s, sizeof s) == 0, "secrets in a state");
+        check(a.state.settings.avalanche == (flags & 1), "avalanche in a state");
+        check(a.state.settings.is_protected == !!(flags & 2), "protected in a state");
+        check(memcmp(a.state.lanes, h.lanes, sizeof h.lanes) == 0, "lanes in a state");
+        check(a.state.count == 41 && a.state.waiting == 113, "count and waiting bytes in a state");
+        check(memcmp(a.state.buffer, h.buffer, sizeof h.buffer) == 0, "the buffer in a state");
+        tulgranie_stream o = tulgranie_stream_renewed(h);
+        check(o.lanes[6] == 11 && o.count == 0 && o.waiting == 0 && o.buffer[127] == 0, "a state renewed");
+    }
+
+    /* a full sound stream: the room beside number 2 */
+    tulgranie_stream full = tulgranie_stream_open(s, true, false);
+    full.count = 164703072086692425u;
+    full.waiting = 15;
+    for (int i = 0; i < 15; i++) full.buffer[16 + i] = 1;
+    tulgranie_stream_write_answer r = tulgranie_stream_written(full, (const uint8_t *)"xy", 2);
+    check(r.number == 2 && r.room == 0, "room beside number 2");
+    tulgranie_stream_end e = tulgranie_stream_finished(full);
+    check(e.number == 0 && e.count == 164703072086692425u, "the count of an end");
+
+    /* an answer about a record has every field in its place */
+    static const uint8_t record[] = {1, 1, 0, 'A', 2, 0, 0, 128, 2, 0, 'x', 'y'};
+    static const uint8_t tags[] = {128};
+    tulgranie_answer a = tulgranie_find(record, sizeof record, tags, 1);
+    check(a.number == 0 && a.place == 7 && a.tag == 128 && a.start == 10 && a.length == 2 && a.fingerprint == 0, "a field");
+    a = tulgranie_fingerprint(record, sizeof record, s);
+    check(a.number == 0 && a.fingerprint == tulgranie_full(record + 3, 1, s, true, false, false), "a fingerprint");
+    a = tulgranie_read(record, 9);
+    check(a.number == 6 && a.place == 7 && a.tag == 0 && a.start == 0 && a.length == 0, "a refusal");
+
+    /* no bytes, from nowhere */
+    check(tulgranie_read(NULL, 0).number == 10, "no record");
+    check(tulgranie_find(record, sizeof record, NULL, 0).number == 11, "no tags");
+    check(tulgranie_word8(NULL, 0, 0).number == 3 && tulgranie_word4(NULL, 0, SIZE_MAX).number == 3, "no words");
+    check(tulgranie_full(NULL, 0, s, true, false, false) == tulgranie_full(record, 0, s, true, true, false), "no message");
+    r = tulgranie_stream_written(tulgranie_stream_open(s, true, false), NULL, 0);
+    check(r.number == 0 && r.state.waiting == 0, "an empty write");
+
+    printf("layout: %s\n", wrong ? "WRONG" : "the header and the library agree");
+    return wrong != 0;
+}
