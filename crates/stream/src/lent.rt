@@ -1,7 +1,8 @@
 // The hasher lent and changed in place, as the Rust has it: thin functions over the by-value core.
 ghost use mathlib.Core.Path.{_≡_};
-ghost use Rattle.stream.specs.State.{finishOf, resetOf, ended};
+ghost use Rattle.stream.specs.State.{writeOf, finishOf, resetOf, said, ended};
 use crate::rapid_stream_hasher::Finished;
+use crate::rapid_stream_hasher::Outcome;
 use crate::rapid_stream_hasher::RapidStreamHasher;
 
 // The opening state of the same settings, in place.
@@ -17,4 +18,13 @@ pub fn finish(hasher: &RapidStreamHasher) -> Finished
     ensures { λ r. ⌜ ended r ≡ finishOf 7 (now (hasher .entry)) ⌝ }
 {
     (*hasher).finish()
+}
+
+// All bytes are taken in place, or none, and why.
+pub fn write(hasher: &mut RapidStreamHasher, data: &[u8]) -> Outcome
+    ensures { λ r. ⌜ record { state = now (hasher .exit); says = said r } ≡ writeOf 7 (now (hasher .entry)) (now («data» .entry)) ⌝ }
+{
+    let w = (*hasher).write(data);
+    *hasher = w.state;
+    w.outcome
 }
