@@ -1,2 +1,3 @@
 // The stream: a hash of bytes that come in parts.
+pub mod lent;
 pub mod rapid_stream_hasher;
