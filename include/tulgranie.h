@@ -2,7 +2,8 @@
  *
  * Every call takes any input and ends. It keeps no pointer, allocates nothing, prints nothing and has no state of its
  * own, so that threads need no lock. Bytes come as a pointer and a length; with length 0 the pointer may be NULL. They are
- * only read. Structs are passed and returned whole.
+ * only read. A stream is the caller's and is changed in place, by one call at a time; its pointer must not be NULL. Other
+ * structs are passed and returned whole.
  *
  * Answers carry a number: 0 done, else why not.
  *    1  the stream's state is not sound: nothing was written, or there is no hash
@@ -56,12 +57,11 @@ typedef struct tulgranie_stream {
     uint8_t buffer[128];
 } tulgranie_stream;
 
-/* A write's answer: the next state, a number, and with number 2 how many bytes there is room for. */
-typedef struct tulgranie_stream_write_answer {
-    tulgranie_stream state;
+/* What a write says: a number, and with number 2 how many bytes there is room for. */
+typedef struct tulgranie_stream_wrote {
     uint64_t number;
     uint64_t room;
-} tulgranie_stream_write_answer;
+} tulgranie_stream_wrote;
 
 /* What finish finds: a number, the hash, and how many chunks of 112 bytes were mixed. */
 typedef struct tulgranie_stream_end {
@@ -110,14 +110,14 @@ uint64_t tulgranie_nano(const uint8_t *data, size_t length, tulgranie_secrets se
 /* A stream of no bytes. Its end is the full hash of all the bytes written, however they are cut. */
 tulgranie_stream tulgranie_stream_open(tulgranie_secrets secrets, bool avalanche, bool is_protected);
 
-/* The stream with more bytes: all of them, or none. Where it refuses, the state that comes back is the one given. */
-tulgranie_stream_write_answer tulgranie_stream_written(tulgranie_stream state, const uint8_t *data, size_t length);
+/* More bytes to the stream: all of them are taken, or none. Where it refuses, the stream stays as it is. */
+tulgranie_stream_wrote tulgranie_stream_write(tulgranie_stream *stream, const uint8_t *data, size_t length);
 
-/* The hash of the bytes so far. The state stays as it is, so more can be written after it. */
-tulgranie_stream_end tulgranie_stream_finished(tulgranie_stream state);
+/* The hash of the bytes so far. The stream is only looked at, so more can be written after it. */
+tulgranie_stream_end tulgranie_stream_finish(const tulgranie_stream *stream);
 
-/* The stream of no bytes with the same seed, secrets and flags, whatever the state is. */
-tulgranie_stream tulgranie_stream_renewed(tulgranie_stream state);
+/* Makes it a stream of no bytes with the same seed, secrets and flags, whatever its state is. */
+void tulgranie_stream_reset(tulgranie_stream *stream);
 
 /* Whether a label record is good: number 0, or 5 to 10 with the place. */
 tulgranie_answer tulgranie_read(const uint8_t *record, size_t length);

@@ -191,18 +191,17 @@ static bool call(tulgranie_stream *s, char *text)
         bool bad = false;
         bytes data = digits(text + 1, &bad);
         if (bad) return false;
-        tulgranie_stream_write_answer a = tulgranie_stream_written(*s, data.at, data.length);
-        *s = a.state;
+        tulgranie_stream_wrote a = tulgranie_stream_write(s, data.at, data.length);
         printf("W%llu:", (unsigned long long)a.number);
         show_hex(a.room);
     } else if (strcmp(text, "F") == 0) {
-        tulgranie_stream_end e = tulgranie_stream_finished(*s);
+        tulgranie_stream_end e = tulgranie_stream_finish(s);
         printf("F%llu:", (unsigned long long)e.number);
         show_hex(e.hash);
         putchar(':');
         show_hex(e.count);
     } else if (strcmp(text, "R") == 0) {
-        *s = tulgranie_stream_renewed(*s);
+        tulgranie_stream_reset(s);
         putchar('R');
     } else {
         return false;
@@ -322,22 +321,23 @@ static bool answer_state(const char *kind, words *w)
     if (strcmp(kind, "swrite") == 0) {
         bytes data = hex_bytes(w, ' ');
         if (w->bad || w->at) return false;
-        tulgranie_stream_write_answer a = tulgranie_stream_written(s, data.at, data.length);
+        tulgranie_stream_wrote a = tulgranie_stream_write(&s, data.at, data.length);
         printf("%llu ", (unsigned long long)a.number);
         show_hex(a.room);
         putchar(' ');
-        show_state(a.state);
+        show_state(s);
         return true;
     }
     if (w->bad || w->at) return false;
     if (strcmp(kind, "sfinish") == 0) {
-        tulgranie_stream_end e = tulgranie_stream_finished(s);
+        tulgranie_stream_end e = tulgranie_stream_finish(&s);
         printf("%llu ", (unsigned long long)e.number);
         show_hex(e.hash);
         putchar(' ');
         show_hex(e.count);
     } else {
-        show_state(tulgranie_stream_renewed(s));
+        tulgranie_stream_reset(&s);
+        show_state(s);
     }
     return true;
 }

@@ -14,11 +14,9 @@ int main(int argc, char **argv)
     }
     tulgranie_stream stream = tulgranie_stream_open(tulgranie_default_secrets(), true, false);
     while ((n = fread(part, 1, sizeof part, file)) > 0) {
-        tulgranie_stream_write_answer answer = tulgranie_stream_written(stream, part, n);
-        if (answer.number != 0) return 1; /* more than 2^64 - 1 bytes */
-        stream = answer.state;
+        if (tulgranie_stream_write(&stream, part, n).number != 0) return 1; /* more than 2^64 - 1 bytes */
     }
     if (ferror(file)) return 1;
-    printf("%016llx  %s\n", (unsigned long long)tulgranie_stream_finished(stream).hash, argv[1]);
+    printf("%016llx  %s\n", (unsigned long long)tulgranie_stream_finish(&stream).hash, argv[1]);
     return 0;
 }

@@ -32,8 +32,8 @@ int main(void)
     PLACE(tulgranie_stream, count, 128);
     PLACE(tulgranie_stream, waiting, 136);
     PLACE(tulgranie_stream, buffer, 144);
-    SIZE(tulgranie_stream_write_answer, 288);
-    PLACE(tulgranie_stream_write_answer, number, 272);
+    SIZE(tulgranie_stream_wrote, 16);
+    PLACE(tulgranie_stream_wrote, room, 8);
     SIZE(tulgranie_stream_end, 24);
     SIZE(tulgranie_answer, 48);
     PLACE(tulgranie_answer, fingerprint, 40);
@@ -56,26 +56,49 @@ int main(void)
         h.count = 41;
         h.waiting = 113;
         for (int i = 0; i < 128; i++) h.buffer[i] = (uint8_t)(i + 1);
-        tulgranie_stream_write_answer a = tulgranie_stream_written(h, (const uint8_t *)"x", 1);
+        tulgranie_stream g = h;
+        tulgranie_stream_wrote a = tulgranie_stream_write(&g, (const uint8_t *)"x", 1);
         check(a.number == 1 && a.room == 0, "a refused write's number");
-        check(memcmp(&a.state.settings.secrets, &s, sizeof s) == 0, "secrets in a state");
-        check(a.state.settings.avalanche == (flags & 1), "avalanche in a state");
-        check(a.state.settings.is_protected == !!(flags & 2), "protected in a state");
-        check(memcmp(a.state.lanes, h.lanes, sizeof h.lanes) == 0, "lanes in a state");
-        check(a.state.count == 41 && a.state.waiting == 113, "count and waiting bytes in a state");
-        check(memcmp(a.state.buffer, h.buffer, sizeof h.buffer) == 0, "the buffer in a state");
-        tulgranie_stream o = tulgranie_stream_renewed(h);
-        check(o.lanes[6] == 11 && o.count == 0 && o.waiting == 0 && o.buffer[127] == 0, "a state renewed");
+        check(memcmp(&g.settings.secrets, &s, sizeof s) == 0, "secrets in a state");
+        check(g.settings.avalanche == (flags & 1), "avalanche in a state");
+        check(g.settings.is_protected == !!(flags & 2), "protected in a state");
+        check(memcmp(g.lanes, h.lanes, sizeof h.lanes) == 0, "lanes in a state");
+        check(g.count == 41 && g.waiting == 113, "count and waiting bytes in a state");
+        check(memcmp(g.buffer, h.buffer, sizeof h.buffer) == 0, "the buffer in a state");
+        check(tulgranie_stream_finish(&g).number == 1, "no end of such a state");
+        tulgranie_stream_reset(&g);
+        check(g.lanes[0] == 11 && g.lanes[6] == 11 && g.count == 0 && g.waiting == 0 && g.buffer[127] == 0, "a state reset");
+        check(memcmp(&g.settings.secrets, &s, sizeof s) == 0 && g.settings.avalanche == (flags & 1), "settings kept");
     }
+
+    /* a write in place changes what it must and nothing behind the state */
+    struct {
+        tulgranie_stream stream;
+        uint8_t behind[16];
+    } pair;
+    memset(&pair, 0xa5, sizeof pair);
+    pair.stream = tulgranie_stream_open(s, true, false);
+    tulgranie_stream before = pair.stream;
+    uint8_t data[113];
+    for (int i = 0; i < 113; i++) data[i] = (uint8_t)(i + 1);
+    check(tulgranie_stream_write(&pair.stream, data, 112).number == 0, "a write");
+    check(pair.stream.count == 0 && pair.stream.waiting == 112 && memcmp(pair.stream.buffer + 16, data, 112) == 0, "112 bytes wait");
+    check(tulgranie_stream_write(&pair.stream, data + 112, 1).number == 0, "one byte more");
+    check(pair.stream.count == 1 && pair.stream.waiting == 1 && pair.stream.buffer[16] == 113, "a chunk is mixed");
+    check(memcmp(pair.stream.buffer, data + 96, 16) == 0, "the chunk's last bytes are kept");
+    check(tulgranie_stream_finish(&pair.stream).hash == tulgranie_full(data, 113, s, true, false, false), "the hash of both");
+    tulgranie_stream_reset(&pair.stream);
+    check(memcmp(pair.stream.lanes, before.lanes, sizeof before.lanes) == 0 && pair.stream.waiting == 0, "reset in place");
+    for (int i = 0; i < 16; i++) check(pair.behind[i] == 0xa5, "bytes behind the state");
 
     /* a full sound stream: the room beside number 2 */
     tulgranie_stream full = tulgranie_stream_open(s, true, false);
     full.count = 164703072086692425u;
     full.waiting = 15;
     for (int i = 0; i < 15; i++) full.buffer[16 + i] = 1;
-    tulgranie_stream_write_answer r = tulgranie_stream_written(full, (const uint8_t *)"xy", 2);
+    tulgranie_stream_wrote r = tulgranie_stream_write(&full, (const uint8_t *)"xy", 2);
     check(r.number == 2 && r.room == 0, "room beside number 2");
-    tulgranie_stream_end e = tulgranie_stream_finished(full);
+    tulgranie_stream_end e = tulgranie_stream_finish(&full);
     check(e.number == 0 && e.count == 164703072086692425u, "the count of an end");
 
     /* an answer about a record has every field in its place */
@@ -93,8 +116,8 @@ int main(void)
     check(tulgranie_find(record, sizeof record, NULL, 0).number == 11, "no tags");
     check(tulgranie_word8(NULL, 0, 0).number == 3 && tulgranie_word4(NULL, 0, SIZE_MAX).number == 3, "no words");
     check(tulgranie_full(NULL, 0, s, true, false, false) == tulgranie_full(record, 0, s, true, true, false), "no message");
-    r = tulgranie_stream_written(tulgranie_stream_open(s, true, false), NULL, 0);
-    check(r.number == 0 && r.state.waiting == 0, "an empty write");
+    tulgranie_stream none = tulgranie_stream_open(s, true, false);
+    check(tulgranie_stream_write(&none, NULL, 0).number == 0 && none.waiting == 0, "an empty write");
 
     printf("layout: %s\n", wrong ? "WRONG" : "the header and the library agree");
     return wrong != 0;

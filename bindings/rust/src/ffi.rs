@@ -34,8 +34,7 @@ pub struct Stream {
 
 #[repr(C)]
 #[derive(Clone, Copy)]
-pub struct StreamWritten {
-    pub state: Stream,
+pub struct StreamWrote {
     pub number: u64,
     pub room: u64,
 }
@@ -90,9 +89,9 @@ extern "C" {
         protected: bool,
     ) -> u64;
     pub fn tulgranie_stream_open(secrets: RapidSecrets, avalanche: bool, protected: bool) -> Stream;
-    pub fn tulgranie_stream_written(state: Stream, data: *const u8, length: usize) -> StreamWritten;
-    pub fn tulgranie_stream_finished(state: Stream) -> StreamEnd;
-    pub fn tulgranie_stream_renewed(state: Stream) -> Stream;
+    pub fn tulgranie_stream_write(stream: &mut Stream, data: *const u8, length: usize) -> StreamWrote;
+    pub fn tulgranie_stream_finish(stream: &Stream) -> StreamEnd;
+    pub fn tulgranie_stream_reset(stream: &mut Stream);
     pub fn tulgranie_read(record: *const u8, length: usize) -> Answer;
     pub fn tulgranie_find(record: *const u8, length: usize, tags: *const u8, count: usize) -> Answer;
     pub fn tulgranie_fingerprint(record: *const u8, length: usize, secrets: RapidSecrets) -> Answer;

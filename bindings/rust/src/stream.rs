@@ -43,9 +43,8 @@ impl StreamHasher {
 
     /// Takes all of the bytes, or none.
     pub fn write(&mut self, data: &[u8]) -> Result<(), WriteError> {
-        // SAFETY: the pointer and the length are a slice's, and the library only reads.
-        let answer = unsafe { ffi::tulgranie_stream_written(self.state, data.as_ptr(), data.len()) };
-        self.state = answer.state;
+        // SAFETY: the pointer and the length are a slice's and only read; the state is lent for the call.
+        let answer = unsafe { ffi::tulgranie_stream_write(&mut self.state, data.as_ptr(), data.len()) };
         match answer.number {
             0 => Ok(()),
             2 => Err(WriteError::TooLong { room: answer.room }),
@@ -55,8 +54,8 @@ impl StreamHasher {
 
     /// The hash of the bytes so far. More can be written after it.
     pub fn finish(&self) -> Result<Finished, NotSound> {
-        // SAFETY: a plain struct crosses over.
-        let end = unsafe { ffi::tulgranie_stream_finished(self.state) };
+        // SAFETY: the state is lent for the call and only read.
+        let end = unsafe { ffi::tulgranie_stream_finish(&self.state) };
         if end.number == 0 {
             Ok(Finished { hash: end.hash, chunks: end.count })
         } else {
@@ -66,8 +65,8 @@ impl StreamHasher {
 
     /// The stream of no bytes again, with the same seed, secrets and flags.
     pub fn reset(&mut self) {
-        // SAFETY: a plain struct crosses over.
-        self.state = unsafe { ffi::tulgranie_stream_renewed(self.state) };
+        // SAFETY: the state is lent for the call.
+        unsafe { ffi::tulgranie_stream_reset(&mut self.state) }
     }
 }
 

@@ -1,8 +1,10 @@
 -- The answers of the library as the rules' own. Assumes nothing.
 use Rattle.secrets.specs.Numbers.{Returned}
-use Rattle.stream.specs.State.{Answer as Wrote, Ended}
+use Rattle.stream.specs.State.{Said, Answer as Wrote, Ended}
+use Rattle.stream.specs.declared.rapid_stream_hasher.RapidStreamHasher.{RapidStreamHasher}
 use Rattle.label.specs.Numbers.{Told}
 use Rattle.tulgranie.specs.declared.hashes.Value.{Value}
+use Rattle.tulgranie.specs.declared.streams.StreamWrote.{StreamWrote}
 use Rattle.tulgranie.specs.declared.streams.StreamWritten.{StreamWritten}
 use Rattle.tulgranie.specs.declared.streams.StreamEnded.{StreamEnded}
 use Rattle.tulgranie.specs.declared.labels.Answer.{Answer}
@@ -16,10 +18,18 @@ abbrev pub toldOf : Answer → Told
 toldOf a =
     record { number = a .number; place = a .place; tag = a .tag; start = a .start; length = a .length; fingerprint = a .fingerprint }
 
--- a write's answer, as the stream's own
-abbrev pub answerOf : StreamWritten → Wrote
-answerOf w = record { state = w .state; says = record { number = w .number; room = w .room } }
+-- what a write says, as the stream's own
+abbrev pub saidBy : StreamWrote → Said
+saidBy w = record { number = w .number; room = w .room }
 
--- and finish's
+-- with the state after it
+abbrev pub wroteWith : RapidStreamHasher → StreamWrote → Wrote
+wroteWith h w = record { state = h; says = saidBy w }
+
+-- and both in one
+abbrev pub answerOf : StreamWritten → Wrote
+answerOf w = wroteWith (w .state) (w .says)
+
+-- what finish finds, as the stream's own
 abbrev pub endedOf : StreamEnded → Ended
 endedOf e = record { number = e .number; hash = e .hash; count = e .count }

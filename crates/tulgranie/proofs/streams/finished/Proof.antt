@@ -2,8 +2,8 @@
 use mathlib.Core.Path.{sym, _∙_, ap}
 use Rattle.stream.specs.State.{ended}
 use borrow.Author.Needs.{needs}
-use Rattle.tulgranie.proofs.streams.tulgranie_stream_finished.Statement.{statement}
-use Rattle.tulgranie.proofs.streams.tulgranie_stream_finished.Tie as tie
+use Rattle.tulgranie.proofs.streams.finished.Statement.{statement}
+use Rattle.tulgranie.proofs.streams.finished.Tie as tie
 
 returns : tie.Need-returns
 returns c = ap ended (sym (c .before .finished .given .1)) ∙ c .before .before .before .finish .ensures
@@ -11,6 +11,6 @@ returns c = ap ended (sym (c .before .finished .given .1)) ∙ c .before .before
 returns-2 : tie.Need-returns-2
 returns-2 c = ap ended (sym (c .enum-told .given .1)) ∙ c .before .before .finish .ensures
 
-pub tulgranie-stream-finished-spec : {M : Type 1} → statement M
-tulgranie-stream-finished-spec =
+pub finished-spec : {M : Type 1} → statement M
+finished-spec =
     tie.close (tie.spec (λ c κs. search needs) (λ c. search needs) (λ c. search needs) returns returns-2)
