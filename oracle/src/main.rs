@@ -1,6 +1,7 @@
 //! rapidhash's own Rust as the oracle: it answers requests, checks stored answers, and prints the grid,
 //! the cuts and the edges that programs of this repository replay. README.md says how to run it.
 
+mod answers;
 mod check;
 mod cuts;
 mod edges;
@@ -19,7 +20,7 @@ use std::io::{stdin, stdout, ErrorKind, Result};
 use std::process::ExitCode;
 
 const USAGE: &str =
-    "usage: oracle < REQUESTS | oracle check FILE.. | oracle first-run | oracle cuts | oracle edges";
+    "usage: oracle < REQUESTS | oracle check FILE.. | oracle first-run | oracle cuts | oracle edges | oracle answers";
 
 fn main() -> ExitCode {
     let arguments: Vec<String> = std::env::args().skip(1).collect();
@@ -42,6 +43,7 @@ fn run(arguments: &[String]) -> Result<ExitCode> {
     match (mode.as_str(), rest) {
         ("check", [_, ..]) => check::files(rest, stdout().lock()),
         ("first-run", []) => first_run::print(stdout().lock()).map(|()| ExitCode::SUCCESS),
+        ("answers", []) => answers::print(stdout().lock()).map(|()| ExitCode::SUCCESS),
         ("edges", []) => edges::print(stdout().lock()).map(|()| ExitCode::SUCCESS),
         ("cuts", []) => cuts::print(stdout().lock()).map(|()| ExitCode::SUCCESS),
         _ => {
