@@ -29,6 +29,7 @@ use Rattle.stream.proofs.rapid_stream_hasher.RapidStreamHasher.reset.Re
 use Rattle.stream.proofs.lent.write as lent-write
 use Rattle.stream.proofs.lent.finish as lent-finish
 use Rattle.stream.proofs.lent.reset as lent-reset
+use Rattle.stream.proofs.lent.hash_of_two as hash-of-two
 
 -- two numbers that differ are not said of one outcome
 numbers : {A : Type 0} (m n : ℕ) → (m ≡ n → ⊥) → m ≡ n → A
@@ -101,3 +102,6 @@ module _ {M : Type 1} (𝓤 : URA M) (H : Heap 𝓤) (A : Atoms 𝓤) (mem : Mem
 
   pub lent-reset-one : OneAfter 𝓤 lent-reset.ended (lent-reset.clauses 𝓤 H A mem run) (λ κs r e. now (e .0))
   lent-reset-one κs a g r₁ r₂ e₁ e₂ = both _ _ (λ p q. one p q)
+
+  pub hash-of-two-one : OneAfter 𝓤 hash-of-two.ended (hash-of-two.clauses 𝓤 H A mem run) (λ κs r e. r)
+  hash-of-two-one κs a g r₁ r₂ e₁ e₂ = both _ _ (λ p q. ended-apart r₁ r₂ (one p q))

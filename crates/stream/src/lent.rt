@@ -1,9 +1,10 @@
 // The hasher lent and changed in place, as the Rust has it: thin functions over the by-value core.
 ghost use mathlib.Core.Path.{_≡_};
-ghost use Rattle.stream.specs.State.{writeOf, finishOf, resetOf, said, ended};
+ghost use Rattle.stream.specs.State.{openingOf, writeOf, finishOf, resetOf, said, ended};
 use crate::rapid_stream_hasher::Finished;
 use crate::rapid_stream_hasher::Outcome;
 use crate::rapid_stream_hasher::RapidStreamHasher;
+use secrets::v3::seed::RapidSecrets;
 
 // The opening state of the same settings, in place.
 pub fn reset(hasher: &mut RapidStreamHasher)
@@ -27,4 +28,23 @@ pub fn write(hasher: &mut RapidStreamHasher, data: &[u8]) -> Outcome
     let w = (*hasher).write(data);
     *hasher = w.state;
     w.outcome
+}
+
+// The hash of bytes that come in two parts: a hasher is opened, lent for each part and looked at. The contract names no
+// reference to a hasher, so a caller needs no walk.
+pub fn hash_of_two<'a>(
+    secrets: RapidSecrets,
+    avalanche: bool,
+    protected: bool,
+    first: &'a [u8],
+    second: &'a [u8],
+) -> Finished
+    ensures { λ r. ⌜ ended r ≡ finishOf 7 (writeOf 7 (writeOf 7
+        (openingOf (record { secrets = secrets; avalanche = avalanche; protected = protected }))
+        (now (first .entry)) .state) (now (second .entry)) .state) ⌝ }
+{
+    let mut hasher = RapidStreamHasher::new(secrets, avalanche, protected);
+    write(&mut hasher, first);
+    write(&mut hasher, second);
+    finish(&hasher)
 }
