@@ -19,7 +19,7 @@ const FILES: [&str; 8] = [
     "util/hints.rs",
 ];
 
-fn main() {
+pub fn main() {
     println!("cargo::rerun-if-env-changed=RAPIDHASH_SRC");
     let source = source_folder();
     for file in FILES {

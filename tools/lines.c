@@ -282,6 +282,22 @@ static bool answer_hash(const char *kind, words *w)
     return true;
 }
 
+/* The file form: a stream with the default secrets, written to in parts of 8,192 bytes. */
+static bool answer_file(const char *kind, words *w)
+{
+    (void)kind;
+    bytes data = hex_bytes(w, ' ');
+    if (w->bad || w->at) return false;
+    tulgranie_stream stream = tulgranie_stream_open(tulgranie_default_secrets(), true, false);
+    for (size_t at = 0; at < data.length;) {
+        size_t n = data.length - at < 8192 ? data.length - at : 8192;
+        tulgranie_stream_write(&stream, data.at + at, n);
+        at += n;
+    }
+    show_hex(tulgranie_stream_finish(&stream).hash);
+    return true;
+}
+
 static bool answer_secrets(const char *kind, words *w)
 {
     if (strcmp(kind, "default") == 0) {
@@ -350,6 +366,7 @@ static const struct {
     {"nano", answer_hash},    {"seed", answer_secrets},   {"seed_cpp", answer_secrets}, {"reseed", answer_secrets},
     {"default", answer_secrets}, {"secret", answer_secrets}, {"swrite", answer_state}, {"sfinish", answer_state},
     {"sreset", answer_state}, {"read", answer_record},    {"find", answer_record},    {"finger", answer_record},
+    {"file", answer_file},
 };
 
 static bool answer(char *request)

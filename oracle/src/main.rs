@@ -1,10 +1,11 @@
-//! rapidhash's own Rust as the oracle: it answers requests, checks stored answers, and prints the grid,
-//! the cuts and the edges that programs of this repository replay. README.md says how to run it.
+//! rapidhash's own Rust as the oracle: it answers requests, hashes a file, checks stored answers, and prints
+//! the grid, the cuts and the edges that programs of this repository replay. README.md says how to run it.
 
 mod answers;
 mod check;
 mod cuts;
 mod edges;
+mod file;
 mod first_run;
 mod hashes;
 mod inner;
@@ -19,8 +20,8 @@ include!(concat!(env!("OUT_DIR"), "/rapidhash.rs"));
 use std::io::{stdin, stdout, ErrorKind, Result};
 use std::process::ExitCode;
 
-const USAGE: &str =
-    "usage: oracle < REQUESTS | oracle check FILE.. | oracle first-run | oracle cuts | oracle edges | oracle answers";
+const USAGE: &str = "usage: oracle < REQUESTS | oracle file [DESCRIPTOR] < FILE | oracle check FILE.. \
+    | oracle first-run | oracle cuts | oracle edges | oracle answers";
 
 fn main() -> ExitCode {
     let arguments: Vec<String> = std::env::args().skip(1).collect();
@@ -41,14 +42,21 @@ fn run(arguments: &[String]) -> Result<ExitCode> {
         return Ok(ExitCode::SUCCESS);
     };
     match (mode.as_str(), rest) {
+        ("file", []) => file::print(0, stdout().lock()).map(|()| ExitCode::SUCCESS),
+        ("file", [number]) => match number.parse::<u8>() {
+            Ok(descriptor) => file::print(descriptor.into(), stdout().lock()).map(|()| ExitCode::SUCCESS),
+            Err(_) => usage(),
+        },
         ("check", [_, ..]) => check::files(rest, stdout().lock()),
         ("first-run", []) => first_run::print(stdout().lock()).map(|()| ExitCode::SUCCESS),
         ("answers", []) => answers::print(stdout().lock()).map(|()| ExitCode::SUCCESS),
         ("edges", []) => edges::print(stdout().lock()).map(|()| ExitCode::SUCCESS),
         ("cuts", []) => cuts::print(stdout().lock()).map(|()| ExitCode::SUCCESS),
-        _ => {
-            eprintln!("{USAGE}");
-            Ok(ExitCode::from(2))
-        }
+        _ => usage(),
     }
+}
+
+fn usage() -> Result<ExitCode> {
+    eprintln!("{USAGE}");
+    Ok(ExitCode::from(2))
 }

@@ -5,7 +5,7 @@ use std::io::{BufRead, Result, Write};
 use crate::util::read::{read_u32, read_u64};
 use crate::v3::{RapidSecrets, DEFAULT_RAPID_SECRETS};
 use crate::words::{number, numbers, Words};
-use crate::{hashes, stream};
+use crate::{file, hashes, stream};
 
 pub const UNANSWERED: &str = "unanswered";
 const ERROR: &str = "error";
@@ -46,6 +46,7 @@ fn readable(request: &str) -> Option<String> {
         "word8" => word(words, 8, read_u64),
         "word4" => word(words, 4, |bytes, offset| read_u32(bytes, offset).into()),
         "calls" => calls(words),
+        "file" => file_form(words),
         kind if NOT_IN_RUST.split(' ').any(|name| name == kind) => Some(UNANSWERED.to_string()),
         _ => None,
     }
@@ -89,6 +90,11 @@ fn word(mut words: Words, width: usize, read: impl Fn(&[u8], usize) -> u64) -> O
         Some(offset) => format!("0 {}", number(read(&bytes, offset))),
         None => UNANSWERED.to_string(),
     })
+}
+
+fn file_form(mut words: Words) -> Option<String> {
+    let data = words.bytes()?;
+    words.end().map(|()| file::answer(&data[..]))
 }
 
 fn calls(mut words: Words) -> Option<String> {
