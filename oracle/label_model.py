@@ -2,8 +2,9 @@
 """What the rules say of label records: a second writing, by the sentences of crates/label/specs and not by the code.
 
     label_model.py check FILE..     compares the answers stored in files of cases with the rules
-    label_model.py cases FILE..     prints crates/labels/stdin: cases of our own, then short ones picked from FILE..
-    label_model.py answers FILE     prints what crates/labels has to answer to such a file
+    label_model.py cases FILE..     prints cases of our own, then short ones picked from FILE..
+    label_model.py again FILE       prints the same again, with those that FILE holds already for the picked ones
+    label_model.py answers FILE     prints what crates/answers has to answer to such a file
 """
 
 import sys
@@ -13,6 +14,7 @@ from limits_model import finish, opening, push
 # tag: shortest and longest value
 TABLE = {1: (1, 32), 2: (0, 1024), 3: (1, 64), 4: (0, 4096)} | {tag: (0, 65535) for tag in range(128, 256)}
 LONGEST_RECORD = 8192
+PICKED = "# every fourth short case about records of those that came with the scope"
 
 
 class Refused(Exception):
@@ -173,11 +175,15 @@ def main():
             print("%s = %s, stored %s" % (request[:200], answer(request), stored))
         print("%d differ" % len(wrong))
         sys.exit(1 if wrong else 0)
-    if command == "cases":
-        print("# cases of our own: request = answer")
+    if command in ("cases", "again"):
+        print("# cases of our own about records: request = answer")
         for request in own_cases():
             print("%s = %s" % (request, answer(request)))
-        print("# every fourth short case of those that came with the scope")
+    if command == "again":
+        text = open(paths[0], encoding="ascii").read()
+        print(PICKED + text.partition(PICKED)[2].partition("\n#")[0])
+    if command == "cases":
+        print(PICKED)
         for request, stored in picked(paths):
             print("%s = %s" % (request, stored))
     if command == "answers":

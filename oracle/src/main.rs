@@ -1,6 +1,7 @@
 //! rapidhash's own Rust as the oracle: it answers requests, hashes a file, checks stored answers, and prints
 //! the grid, the cuts and the edges that programs of this repository replay. README.md says how to run it.
 
+mod answers;
 mod check;
 mod cuts;
 mod edges;
@@ -20,7 +21,7 @@ use std::io::{stdin, stdout, ErrorKind, Result};
 use std::process::ExitCode;
 
 const USAGE: &str = "usage: oracle < REQUESTS | oracle file [DESCRIPTOR] < FILE | oracle check FILE.. \
-    | oracle first-run | oracle cuts | oracle edges";
+    | oracle first-run | oracle cuts | oracle edges | oracle answers";
 
 fn main() -> ExitCode {
     let arguments: Vec<String> = std::env::args().skip(1).collect();
@@ -48,6 +49,7 @@ fn run(arguments: &[String]) -> Result<ExitCode> {
         },
         ("check", [_, ..]) => check::files(rest, stdout().lock()),
         ("first-run", []) => first_run::print(stdout().lock()).map(|()| ExitCode::SUCCESS),
+        ("answers", []) => answers::print(stdout().lock()).map(|()| ExitCode::SUCCESS),
         ("edges", []) => edges::print(stdout().lock()).map(|()| ExitCode::SUCCESS),
         ("cuts", []) => cuts::print(stdout().lock()).map(|()| ExitCode::SUCCESS),
         _ => usage(),

@@ -44,6 +44,7 @@ use denote.Triple.Walked.{says, Stays, stay-ref, stay-none-slice, walkOf, goes-r
 use denote.Exit.{yes}
 use Rattle.stream.specs.State.{answered, writeOf}
 use Rattle.stream.specs.declared.rapid_stream_hasher.RapidStreamHasher.{RapidStreamHasher}
+use Rattle.stream.specs.declared.rapid_stream_hasher.Outcome.{Outcome}
 use Rattle.stream.specs.declared.rapid_stream_hasher.Written.{Written}
 use Rattle.stream.proofs.InPlace.{R, val, vals, typed, has, takes, puts}
 use Rattle.stream.proofs.rapid_stream_hasher.Written as S
@@ -62,15 +63,19 @@ use Rattle.stream.proofs.lent.write.Code as code
 abbrev stayed : Stays (write.ended .signature .params) (write.ended .kept)
 stayed = (stay-ref (0 ∷ []) tt (plain (λ _. R)), (stay-none-slice (1 ∷ []) tt (plain (λ _. u8)) yes, tt))
 
--- what is known of the two parts of the core's answer
+-- the result, and its machine value
+abbrev result : Written → Outcome
+result r = r .outcome
+
+abbrev out : Written → Val
+out r = EL.val O.the-type O′.the-laws (result r)
+
+-- what is known of the state that the core returns, and of the result
 state-is : (r : Written) (v : Val) → Is S.the-row r (v ∷ []) → Is R (r .state) (vals (r .state))
 state-is r v is = LL.owed S.the-type S′.the-laws r (v ∷ []) is .0
 
-abbrev out : Written → Val
-out r = EL.val O.the-type O′.the-laws (r .outcome)
-
-outcome-is : (r : Written) (v : Val) → Is S.the-row r (v ∷ []) → Is O.the-row (r .outcome) (out r ∷ [])
-outcome-is r v is = LL.owed S.the-type S′.the-laws r (v ∷ []) is .1 .0
+result-is : (r : Written) (v : Val) → Is S.the-row r (v ∷ []) → Is O.the-row (result r) (out r ∷ [])
+result-is r v is = LL.owed S.the-type S′.the-laws r (v ∷ []) is .1 .0
 
 module _ {M : Type 1} (𝓤 : URA M) (H : Heap 𝓤) (A : Atoms 𝓤) (at-mem : Memory → SProp 𝓤) (run : Routine → Fun 𝓤) where
   abbrev c : Clauses 𝓤 write.ended
@@ -121,10 +126,10 @@ module _ {M : Type 1} (𝓤 : URA M) (H : Heap 𝓤) (A : Atoms 𝓤) (at-mem : 
 
       exits : (r : Written) (v : Val) → Is S.the-row r (v ∷ []) → Says κ′ h d r → ent 𝓤 (⋆ 𝓤 H A (End r)) (Post (out r))
       exits r v is e =
-          qed W (End r) ∵ suffices ! _ (ends-at 𝓤 H A write.ended stayed c W bound (out r) (r .outcome) (r .state, (tt, tt)) (tt, (tt, tt))) $
+          qed W (End r) ∵ suffices ! _ (ends-at 𝓤 H A write.ended stayed c W bound (out r) (result r) (r .state, (tt, tt)) (tt, (tt, tt))) $
           says ! e $ move ! (2 ∷ 3 ∷ []) $ join ! $ frame ! $ feqI ! (List Val) (vptr b o ∷ []) (vptr b o ∷ []) refl $ fjoin3 ! $
           nothing ! $ move ! (2 ∷ 0 ∷ []) $ fjoin ! $ move ! (1 ∷ 0 ∷ []) $ fjoin ! $ frame ! $
-          owned ! O.the-row (Is O.the-row) (EL.makes O.the-type O′.the-plain 𝓤 H A) (r .outcome) _ (outcome-is r v is) $ done !
+          owned ! O.the-row (Is O.the-row) (EL.makes O.the-type O′.the-plain 𝓤 H A) (result r) _ (result-is r v is) $ done !
 
       -- what the core's triple binds outside, and that the caller has what it asks
       abbrev to-core : Core .Ghost
@@ -165,7 +170,7 @@ module _ {M : Type 1} (𝓤 : URA M) (H : Heap 𝓤) (A : Atoms 𝓤) (at-mem : 
             assigns ! (of-opd ! (load ! (from ! (fld ! refl (stop !))) (look-in ! 8 (sub ! 0 refl (whole !)))))
             (from ! (hop ! (look ! 12 refl) (stop !))) (store-raw ! 2 refl (typed W (r .state) (val (r .state)) (state-is r v is))) $
             assigns ! (of-opd ! (load ! (from ! (fld ! refl (stop !))) (look-in ! 8 (sub ! 1 refl (whole !))))) (from ! (stop !))
-            (init ! 14 refl (EL.lawful O.the-type O′.the-laws 𝓤 H A W tt .typed (r .outcome) _ (outcome-is r v is) .0)) $
+            (init ! 14 refl (EL.lawful O.the-type O′.the-laws 𝓤 H A W tt .typed (result r) _ (result-is r v is) .0)) $
             move ! (2 ∷ 3 ∷ 4 ∷ 5 ∷ []) $ puts ! tt (r .state) (vals (r .state)) b o (state-is r v is) $
             -- [obs; the borrow; the token; the bytes' token; what the bytes own; _4; …; _3; …; _2; …; _1; …; _0; …]
             returns ! (look ! 13 refl) $ forget ! 5 refl $ forget ! 7 refl $ forget ! 9 refl $ forget ! 11 refl $ forget ! 13 refl $
