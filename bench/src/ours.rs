@@ -35,14 +35,20 @@ struct End {
 }
 
 extern "C" {
-    fn tulgranie_full(data: *const u8, n: usize, secrets: Secrets, avalanche: bool, compact: bool, protected: bool) -> u64;
+    fn tulgranie_full(
+        data: *const u8,
+        n: usize,
+        secrets: Secrets,
+        avalanche: bool,
+        compact: bool,
+        protected: bool,
+    ) -> u64;
     fn tulgranie_stream_open(secrets: Secrets, avalanche: bool, protected: bool) -> Stream;
     fn tulgranie_stream_write(stream: &mut Stream, data: *const u8, n: usize) -> Wrote;
     fn tulgranie_stream_finish(stream: &Stream) -> End;
 }
 
-const SECRETS: Secrets =
-    Secrets { seed: DEFAULT_RAPID_SECRETS.seed, secrets: DEFAULT_RAPID_SECRETS.secrets };
+const SECRETS: Secrets = Secrets { seed: DEFAULT_RAPID_SECRETS.seed, secrets: DEFAULT_RAPID_SECRETS.secrets };
 
 #[inline(always)]
 pub fn whole(message: &[u8]) -> u64 {
