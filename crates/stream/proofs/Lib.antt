@@ -9,7 +9,6 @@ pub mod Ending
 pub mod Feed
 pub mod Good
 pub mod Hold
-pub mod InPlace
 pub mod ReadBack
 pub mod Seven
 pub mod Slide

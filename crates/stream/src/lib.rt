@@ -1,3 +1,2 @@
 // The stream: a hash of bytes that come in parts.
-pub mod lent;
 pub mod rapid_stream_hasher;

@@ -9,7 +9,7 @@ use ghost.Atoms.{Atoms}
 use contract.Monad.{Fun}
 use denote.Ref.{now}
 use Rattle.secrets.proofs.Demand1.{OneAnswer, one}
-use Rattle.stream.proofs.Demand1.{OneAfter, both}
+use Rattle.lent.proofs.Demand1.{OneAfter, both}
 use Rattle.stream.specs.declared.rapid_stream_hasher.RapidStreamHasher.{RapidStreamHasher}
 use Rattle.stream.specs.State.{Answer as Wrote, Ended}
 use Rattle.label.specs.Numbers.{Told}

@@ -36,7 +36,7 @@ use Rattle.stream.specs.State.{finishOf}
 use Rattle.tulgranie.specs.Answers.{endedOf}
 use Rattle.stream.specs.declared.rapid_stream_hasher.RapidStreamHasher.{RapidStreamHasher}
 use Rattle.tulgranie.specs.declared.streams.StreamEnded.{StreamEnded}
-use Rattle.stream.proofs.InPlace.{R, val, vals, typed, has, sees, leaves}
+use Rattle.lent.proofs.InPlace.{R, val, vals, typed, has, sees, leaves}
 use Rattle.tulgranie.proofs.streams.StreamEnded as F
 use Rattle.tulgranie.proofs.streams.StreamEnded.Laws as F′
 use Rattle.tulgranie.proofs.streams.finished as core

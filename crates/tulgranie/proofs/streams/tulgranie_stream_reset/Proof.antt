@@ -33,7 +33,7 @@ use denote.Triple.Table.{entered, cited}
 use denote.Triple.Walked.{says, Stays, stay-ref, walkOf, goes-ref, Walks, ends-at, walked, walk-meets}
 use Rattle.stream.specs.State.{resetOf}
 use Rattle.stream.specs.declared.rapid_stream_hasher.RapidStreamHasher.{RapidStreamHasher}
-use Rattle.stream.proofs.InPlace.{R, val, vals, typed, has, takes, puts}
+use Rattle.lent.proofs.InPlace.{R, val, vals, typed, has, takes, puts}
 use Rattle.stream.proofs.rapid_stream_hasher.RapidStreamHasher.reset as core
 use Rattle.stream.proofs.rapid_stream_hasher.RapidStreamHasher.reset.Symbol as core-def
 use Rattle.stream.proofs.rapid_stream_hasher.RapidStreamHasher.reset.Symbol.{name as #core}

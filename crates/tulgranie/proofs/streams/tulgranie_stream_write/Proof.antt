@@ -43,7 +43,7 @@ use Rattle.stream.specs.State.{writeOf}
 use Rattle.tulgranie.specs.Answers.{answerOf}
 use Rattle.stream.specs.declared.rapid_stream_hasher.RapidStreamHasher.{RapidStreamHasher}
 use Rattle.tulgranie.specs.declared.streams.StreamWritten.{StreamWritten}
-use Rattle.stream.proofs.InPlace.{R, val, vals, typed, has, takes, puts}
+use Rattle.lent.proofs.InPlace.{R, val, vals, typed, has, takes, puts}
 use Rattle.tulgranie.proofs.streams.StreamWritten as S
 use Rattle.tulgranie.proofs.streams.StreamWritten.Laws as S′
 use Rattle.tulgranie.proofs.streams.StreamWrote as O

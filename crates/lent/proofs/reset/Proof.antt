@@ -33,17 +33,17 @@ use denote.Triple.Entry.{onEntry}
 use denote.Triple.Spec.{Meets, tripleOf}
 use denote.Triple.Table.{entered, cited}
 use denote.Triple.Walked.{says, Stays, stay-ref, walkOf, goes-ref, Walks, ends-at, walked, walk-meets}
 use Rattle.stream.specs.State.{resetOf}
 use Rattle.stream.specs.declared.rapid_stream_hasher.RapidStreamHasher.{RapidStreamHasher}
-use Rattle.stream.proofs.InPlace.{R, val, vals, typed, has, takes, puts}
+use Rattle.lent.proofs.InPlace.{R, val, vals, typed, has, takes, puts}
 use Rattle.stream.proofs.rapid_stream_hasher.RapidStreamHasher.reset as core
 use Rattle.stream.proofs.rapid_stream_hasher.RapidStreamHasher.reset.Symbol as core-def
 use Rattle.stream.proofs.rapid_stream_hasher.RapidStreamHasher.reset.Symbol.{name as #core}
 use Rattle.stream.proofs.rapid_stream_hasher.RapidStreamHasher.reset.Met as core-thm
-use Rattle.stream.proofs.lent.reset.Key.{name as #reset}
-use Rattle.stream.proofs.lent.reset as reset
-use Rattle.stream.proofs.lent.reset.Statement as stated
-use Rattle.stream.proofs.lent.reset.Code as code
+use Rattle.lent.proofs.reset.Key.{name as #reset}
+use Rattle.lent.proofs.reset as reset
+use Rattle.lent.proofs.reset.Statement as stated
+use Rattle.lent.proofs.reset.Code as code
 
 abbrev stayed : Stays (reset.ended .signature .params) (reset.ended .kept)
 stayed = (stay-ref (0 ∷ []) tt (plain (λ _. R)), tt)

@@ -42,23 +42,23 @@ use denote.Triple.Spec.{Meets, tripleOf}
 use denote.Triple.Table.{entered, cited}
 use denote.Triple.Walked.{says, Stays, stay-ref, stay-none-slice, walkOf, goes-ref, goes-none-slice, Walks, ends-at, walked, walk-meets}
 use denote.Exit.{yes}
 use Rattle.stream.specs.State.{answered, writeOf}
 use Rattle.stream.specs.declared.rapid_stream_hasher.RapidStreamHasher.{RapidStreamHasher}
 use Rattle.stream.specs.declared.rapid_stream_hasher.Outcome.{Outcome}
 use Rattle.stream.specs.declared.rapid_stream_hasher.Written.{Written}
-use Rattle.stream.proofs.InPlace.{R, val, vals, typed, has, takes, puts}
+use Rattle.lent.proofs.InPlace.{R, val, vals, typed, has, takes, puts}
 use Rattle.stream.proofs.rapid_stream_hasher.Written as S
 use Rattle.stream.proofs.rapid_stream_hasher.Written.Laws as S′
 use Rattle.stream.proofs.rapid_stream_hasher.Outcome as O
 use Rattle.stream.proofs.rapid_stream_hasher.Outcome.Laws as O′
 use Rattle.stream.proofs.rapid_stream_hasher.RapidStreamHasher.write as core
 use Rattle.stream.proofs.rapid_stream_hasher.RapidStreamHasher.write.Symbol as core-def
 use Rattle.stream.proofs.rapid_stream_hasher.RapidStreamHasher.write.Symbol.{name as #core}
 use Rattle.stream.proofs.rapid_stream_hasher.RapidStreamHasher.write.Met as core-thm
-use Rattle.stream.proofs.lent.write.Key.{name as #write}
-use Rattle.stream.proofs.lent.write as write
-use Rattle.stream.proofs.lent.write.Statement as stated
-use Rattle.stream.proofs.lent.write.Code as code
+use Rattle.lent.proofs.write.Key.{name as #write}
+use Rattle.lent.proofs.write as write
+use Rattle.lent.proofs.write.Statement as stated
+use Rattle.lent.proofs.write.Code as code
 
 abbrev stayed : Stays (write.ended .signature .params) (write.ended .kept)
 stayed = (stay-ref (0 ∷ []) tt (plain (λ _. R)), (stay-none-slice (1 ∷ []) tt (plain (λ _. u8)) yes, tt))

@@ -1,10 +1,10 @@
 // The hasher lent and changed in place, as the Rust has it: thin functions over the by-value core.
 ghost use mathlib.Core.Path.{_≡_};
 ghost use Rattle.stream.specs.State.{openingOf, writeOf, finishOf, resetOf, said, ended};
-use crate::rapid_stream_hasher::Finished;
-use crate::rapid_stream_hasher::Outcome;
-use crate::rapid_stream_hasher::RapidStreamHasher;
 use secrets::v3::seed::RapidSecrets;
+use stream::rapid_stream_hasher::Finished;
+use stream::rapid_stream_hasher::Outcome;
+use stream::rapid_stream_hasher::RapidStreamHasher;
 
 // The opening state of the same settings, in place.
 pub fn reset(hasher: &mut RapidStreamHasher)

@@ -34,20 +34,20 @@ use denote.Triple.Spec.{Meets, tripleOf}
 use denote.Triple.Table.{entered, cited}
 use denote.Triple.Walked.{says, Stays, stay-none-ref, walkOf, goes-none-ref, Walks, ends-at, walked, walk-meets}
 use denote.Exit.{yes}
 use Rattle.stream.specs.State.{ended, finishOf}
 use Rattle.stream.specs.declared.rapid_stream_hasher.RapidStreamHasher.{RapidStreamHasher}
 use Rattle.stream.specs.declared.rapid_stream_hasher.Finished.{Finished}
-use Rattle.stream.proofs.InPlace.{R, val, vals, typed, has, sees, leaves}
+use Rattle.lent.proofs.InPlace.{R, val, vals, typed, has, sees, leaves}
 use Rattle.stream.proofs.rapid_stream_hasher.Finished as F
 use Rattle.stream.proofs.rapid_stream_hasher.Finished.Laws as F′
 use Rattle.stream.proofs.rapid_stream_hasher.RapidStreamHasher.finish as core
 use Rattle.stream.proofs.rapid_stream_hasher.RapidStreamHasher.finish.Symbol as core-def
 use Rattle.stream.proofs.rapid_stream_hasher.RapidStreamHasher.finish.Symbol.{name as #core}
 use Rattle.stream.proofs.rapid_stream_hasher.RapidStreamHasher.finish.Met as core-thm
-use Rattle.stream.proofs.lent.finish.Key.{name as #finish}
-use Rattle.stream.proofs.lent.finish as finish
-use Rattle.stream.proofs.lent.finish.Statement as stated
-use Rattle.stream.proofs.lent.finish.Code as code
+use Rattle.lent.proofs.finish.Key.{name as #finish}
+use Rattle.lent.proofs.finish as finish
+use Rattle.lent.proofs.finish.Statement as stated
+use Rattle.lent.proofs.finish.Code as code
 
 abbrev stayed : Stays (finish.ended .signature .params) (finish.ended .kept)
 stayed = (stay-none-ref (0 ∷ []) tt (plain (λ _. R)) yes, tt)

@@ -50,32 +50,32 @@ use denote.Exit.{yes}
 use Rattle.secrets.specs.declared.v3.seed.RapidSecrets.{RapidSecrets}
 use Rattle.secrets.proofs.v3.seed.RapidSecrets as P
 use Rattle.secrets.proofs.v3.seed.RapidSecrets.Laws as P′
 use Rattle.stream.specs.State.{Answer, said, ended, openingOf, writeOf, finishOf}
 use Rattle.stream.specs.declared.rapid_stream_hasher.RapidStreamHasher.{RapidStreamHasher}
 use Rattle.stream.specs.declared.rapid_stream_hasher.Outcome.{Outcome}
 use Rattle.stream.specs.declared.rapid_stream_hasher.Finished.{Finished}
-use Rattle.stream.proofs.InPlace.{R, val, vals, typed, lies, stands}
+use Rattle.lent.proofs.InPlace.{R, val, vals, typed, lies, stands}
 use Rattle.stream.proofs.rapid_stream_hasher.RapidStreamHasher.Laws as T′
 use Rattle.stream.proofs.rapid_stream_hasher.Outcome as O
 use Rattle.stream.proofs.rapid_stream_hasher.Outcome.Laws as O′
 use Rattle.stream.proofs.rapid_stream_hasher.Finished as F
 use Rattle.stream.proofs.rapid_stream_hasher.Finished.Laws as F′
 use Rattle.stream.proofs.rapid_stream_hasher.RapidStreamHasher.new as new
 use Rattle.stream.proofs.rapid_stream_hasher.RapidStreamHasher.new.Symbol as new-def
 use Rattle.stream.proofs.rapid_stream_hasher.RapidStreamHasher.new.Symbol.{name as #new}
 use Rattle.stream.proofs.rapid_stream_hasher.RapidStreamHasher.new.Met as new-thm
-use Rattle.stream.proofs.lent.write as write
-use Rattle.stream.proofs.lent.write.Symbol as write-def
-use Rattle.stream.proofs.lent.write.Symbol.{name as #write}
-use Rattle.stream.proofs.lent.write.Met as write-thm
-use Rattle.stream.proofs.lent.finish as finish
-use Rattle.stream.proofs.lent.finish.Symbol as finish-def
-use Rattle.stream.proofs.lent.finish.Symbol.{name as #finish}
-use Rattle.stream.proofs.lent.finish.Met as finish-thm
-use Rattle.stream.proofs.lent.hash_of_two.Key.{name as #two}
-use Rattle.stream.proofs.lent.hash_of_two as two
-use Rattle.stream.proofs.lent.hash_of_two.Statement as stated
-use Rattle.stream.proofs.lent.hash_of_two.Code as code
+use Rattle.lent.proofs.write as write
+use Rattle.lent.proofs.write.Symbol as write-def
+use Rattle.lent.proofs.write.Symbol.{name as #write}
+use Rattle.lent.proofs.write.Met as write-thm
+use Rattle.lent.proofs.finish as finish
+use Rattle.lent.proofs.finish.Symbol as finish-def
+use Rattle.lent.proofs.finish.Symbol.{name as #finish}
+use Rattle.lent.proofs.finish.Met as finish-thm
+use Rattle.lent.proofs.hash_of_two.Key.{name as #two}
+use Rattle.lent.proofs.hash_of_two as two
+use Rattle.lent.proofs.hash_of_two.Statement as stated
+use Rattle.lent.proofs.hash_of_two.Code as code
 
 -- a flag and a part stay the caller's
 abbrev flag : Stay {n = 1} (plain (λ _. bool)) yes
@@ -375,6 +375,6 @@ hash-of-two-spec 𝓤 H 𝓜 𝓖 𝓡 =
     (cited 𝓤 H (New 𝓤 H (𝓖 .A) (𝓜 .mem) (𝓡 .run)) 𝓜 𝓡 code.env #new new-def.routine
     code.calls-stream·rapid-stream-hasher·RapidStreamHasher·new (new-thm.met 𝓤 H 𝓜 𝓖 𝓡))
     (cited 𝓤 H (Write 𝓤 H (𝓖 .A) (𝓜 .mem) (𝓡 .run)) 𝓜 𝓡 code.env #write write-def.routine
-    code.calls-stream·lent·write (write-thm.met 𝓤 H 𝓜 𝓖 𝓡))
+    code.calls-lent·write (write-thm.met 𝓤 H 𝓜 𝓖 𝓡))
     (cited 𝓤 H (Finish 𝓤 H (𝓖 .A) (𝓜 .mem) (𝓡 .run)) 𝓜 𝓡 code.env #finish finish-def.routine
-    code.calls-stream·lent·finish (finish-thm.met 𝓤 H 𝓜 𝓖 𝓡)))
+    code.calls-lent·finish (finish-thm.met 𝓤 H 𝓜 𝓖 𝓡)))
