@@ -12,6 +12,7 @@ pub mod FindLaws
 pub mod Refusals
 pub mod Written
 pub mod GoodExactly
+pub mod InOrder
 pub mod Finds
 pub mod Demand1
 pub mod WorkedByHand

@@ -3,7 +3,9 @@ use Prim.Native.Nat.{ℕ, _/_, _%_, _≤_, _<_}
 use mathlib.Core.Path.{_≡_}
 use mathlib.Core.Bool.{true}
 use mathlib.Core.List.{List, [], _∷_, _++_}
+use lib.Dec.{leb}
 use lib.ListN.{length}
+use Rattle.secrets.specs.Choice.{pick}
 use Rattle.label.specs.Label.{table, valueOf}
 use Rattle.label.specs.declared.field.Field.{Field}
 use Rattle.label.specs.declared.field.Lookup.the-variants.{At}
@@ -50,3 +52,8 @@ pub record GoodRecord (s : List ℕ) (ps : List Plain) : Type 0 where
 -- a field that was read, as it is meant
 abbrev pub plain : List ℕ → Field → Plain
 plain s f = record { tag = f .tag; value = valueOf s (At f) }
+
+-- the values of the fields with tags up to n, in the record's order
+unfoldable pub valuesTo : ℕ → List Plain → List ℕ
+valuesTo n [] = []
+valuesTo n (p ∷ ps) = pick (leb (p .tag) n) (p .value) [] ++ valuesTo n ps
