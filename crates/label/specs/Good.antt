@@ -1,4 +1,4 @@
--- A good record in plain words (the scope's "Label record"): what it is, not how it is read. Assumes nothing.
+-- A good record in plain words (docs/RULES.md, section 7.2): what it is, not how it is read. Assumes nothing.
 use Prim.Native.Nat.{ℕ, _/_, _%_, _≤_, _<_}
 use mathlib.Core.Path.{_≡_}
 use mathlib.Core.Bool.{true}

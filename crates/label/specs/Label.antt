@@ -1,4 +1,4 @@
--- The label record (the scope's "Label record"): what stands at a place, the fields of a record, reading, finding and the fingerprint.
+-- The label record (docs/RULES.md, section 7): what stands at a place, the fields of a record, reading, finding and the fingerprint.
 -- Assumes nothing.
 use Prim.Native.Nat.{ℕ, zero, suc, _+_}
 use mathlib.Core.Bool.{Bool, true, false}

@@ -1,4 +1,4 @@
--- The numbers that come back from a record, with what is returned beside each (the scope's table "Numbers that come back"). Assumes nothing.
+-- The numbers that come back from a record, with what is returned beside each (docs/RULES.md, section 8). Assumes nothing.
 use Prim.Native.Nat.{ℕ}
 use Rattle.label.specs.declared.field.Why.{Why}
 use Rattle.label.specs.declared.field.Why.the-variants.{TooLong, Cut, NoSuchTag, NotAbove, BadLength, Missing, NotListed}

@@ -1,4 +1,4 @@
--- The table of numbers, row by row (the scope's "Numbers that come back"), with its order: what stands at a place, and what reading a record
+-- The table of numbers, row by row (docs/RULES.md, section 8), with its order: what stands at a place, and what reading a record
 -- comes to. Beside the definitions that compute; that both say the same is proved. Assumes nothing.
 use Prim.Native.Nat.{ℕ, _+_, _≤_, _<_}
 use mathlib.Core.Path.{_≡_}

@@ -1,4 +1,4 @@
--- The examples that were worked by hand (the scope's "Numbers worked by hand"), as one table of tests. Assumes nothing.
+-- The examples that were worked by hand (docs/RULES.md, section 9), as one table of tests. Assumes nothing.
 use Prim.Native.Nat.{ℕ, _+_, _-_, _^_}
 use mathlib.Core.Bool.{Bool, true, false}
 use mathlib.Core.List.{List, [], _∷_, _++_}

@@ -1,4 +1,4 @@
--- The three hashes, stated once over the number of lanes L (the scope's "The three hashes"). Chunks have 16 L bytes. Assumes nothing.
+-- The three hashes, stated once over the number of lanes L (docs/RULES.md, section 4). Chunks have 16 L bytes. Assumes nothing.
 use Prim.Native.Nat.{ℕ, zero, suc, _+_, _-_, _*_, _/_, _^_}
 use mathlib.Core.Bool.{Bool, true, false}
 use mathlib.Core.List.{List, [], _∷_, map}

@@ -1,4 +1,4 @@
--- Bytes as numbers, and reads by offset (the scope's util/read). A byte past the end of a list counts as 0. Assumes nothing.
+-- Bytes as numbers, and reads by offset (docs/RULES.md, section 3). A byte past the end of a list counts as 0. Assumes nothing.
 use Prim.Native.Nat.{ℕ, zero, suc, _+_, _*_, _^_}
 use mathlib.Core.List.{List}
 use lib.Dec.{leb}

@@ -1,4 +1,4 @@
--- The folded multiply (the scope's util/mix). Assumes nothing.
+-- The folded multiply (docs/RULES.md, section 1). Assumes nothing.
 use Prim.Native.Nat.{ℕ, _*_, _/_, _%_, _^_}
 use mathlib.Core.Bool.{Bool, true, false}
 use lib.Bits.{bitXor}

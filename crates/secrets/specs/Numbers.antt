@@ -1,4 +1,4 @@
--- The numbers that come back, with what is returned beside each (the scope's table "Numbers that come back"). Assumes nothing.
+-- The numbers that come back, with what is returned beside each (docs/RULES.md, section 8). Assumes nothing.
 use Prim.Native.Nat.{ℕ}
 use Rattle.secrets.specs.declared.util.found.Found.{Found}
 use Rattle.secrets.specs.declared.util.found.Found.the-variants.{Value, PastEnd}

@@ -1,4 +1,4 @@
--- Seeds and secrets (the scope's "Secrets"). Assumes nothing.
+-- Seeds and secrets (docs/RULES.md, section 2). Assumes nothing.
 use Prim.Native.Nat.{ℕ, zero, suc, _+_, _/_, _%_, _^_}
 use mathlib.Core.Bool.{false}
 use mathlib.Core.List.{List, [], _∷_}

@@ -1,4 +1,4 @@
--- What a reader of the stream looks for (the scope's demand 3): cuts do not matter, finish is the whole-message hash, sound states stay sound,
+-- What a reader of the stream looks for (demand 3): cuts do not matter, finish is the whole-message hash, sound states stay sound,
 -- a refusal changes nothing, and any sequence of calls answers as on a plain list of the accepted bytes. Assumes nothing.
 use Prim.Native.Nat.{ℕ, _+_, _-_, _*_, _≤_, _<_}
 use mathlib.Core.Path.{_≡_, refl, _∙_, ap, sym}
@@ -22,7 +22,7 @@ use Rattle.stream.proofs.Hold.{view-hold, sound-hold, good-view, total-
 use Rattle.stream.proofs.After.{fed, streamOf, after, fed-append, good-fed, total-fed, taken-hold, good-after, after-none, sofar-after, sound-after, reset-after}
 
 module _ (L : ℕ) (pos : 0 < L) (few : L ≤ 7) where
-  -- (a) Where the bytes are cut does not matter: a sound L state takes xs and then ys as it takes both at once. So the state depends only on the
+  -- (a) Where the bytes are cut does not matter: a sound state takes xs and then ys as it takes both at once. So the state depends only on the
   -- bytes, the seed, the secrets and the flags.
   pub cuts : (h : RapidStreamHasher) (xs ys : List ℕ) → length (h .buffer) ≡ 128 → sound L h ≡ true → taken L (taken L h xs) ys ≡ taken L h (xs ++ ys)
   unfolding taken
@@ -37,12 +37,12 @@ module _ (L : ℕ) (pos : 0 < L) (few : L ≤ 7) where
   taken-after o xs ys =
       taken-hold L o (streamOf L o xs) ys (good-after L o pos xs .sixteen) ∙ ap (hold o) (sym (fed-append L o (opened (o .secrets .seed)) xs ys))
 
-  -- No bytes leave a sound L state as it is.
+  -- No bytes leave a sound state as it is.
   pub taken-none : (h : RapidStreamHasher) → length (h .buffer) ≡ 128 → sound L h ≡ true → taken L h [] ≡ h
   unfolding taken feed
   taken-none = hold-view L few
 
-  -- (b) Finish after L any bytes that are not too many answers the hash of them as one message, and the number of chunks that this mixes.
+  -- (b) Finish after any bytes that are not too many answers the hash of them as one message, and the number of chunks that this mixes.
   pub finish-is-whole : (o : Settings) (bytes : List ℕ) → length bytes ≤ most
       → finishOf L (after L o bytes) ≡ ended (Hash (hashOf L (o .avalanche) (o .protected) (o .secrets) bytes) (chunks (16 * L) (length bytes)))
   unfolding finishOf after hold
@@ -55,7 +55,7 @@ module _ (L : ℕ) (pos : 0 < L) (few : L ≤ 7) where
       )
 
   module _ (h : RapidStreamHasher) (s : List ℕ) where
-    -- (d) A write to a state that is not sound L says so and gives the state back.
+    -- (d) A write to a state that is not sound says so and gives the state back.
     pub refused-not-sound : sound L h ≡ false → writeOf L h s ≡ record { state = h; says = said NotSound }
     unfolding writeOf
     refused-not-sound e = rw e
@@ -70,16 +70,16 @@ module _ (L : ℕ) (pos : 0 < L) (few : L ≤ 7) where
     unfolding writeOf
     taken-when e l = rw (e, le-leb (sofar L h + length s) most l)
 
-  -- (c) An opening is sound L.
+  -- (c) An opening is sound.
   pub opening-sound : (o : Settings) → sound L (openingOf o) ≡ true
   opening-sound o = rw (after-none L o) at (sound-after L o pos [] (omega arith))
 
-  -- So is a state after L reset, whatever it was before.
+  -- So is a state after reset, whatever it was before.
   pub reset-sound : (h : RapidStreamHasher) → sound L (resetOf h) ≡ true
   unfolding resetOf
   reset-sound h = opening-sound (h .settings)
 
-  -- And a sound L state stays so by a write, whether this takes the bytes or refuses them.
+  -- And a sound state stays so by a write, whether this takes the bytes or refuses them.
   pub written-sound : (h : RapidStreamHasher) (s : List ℕ) → length (h .buffer) ≡ 128 → sound L h ≡ true → sound L (writeOf L h s .state) ≡ true
   unfolding taken
   written-sound h s size ok = go (decLe (sofar L h + length s) most)
@@ -121,7 +121,7 @@ module _ (L : ℕ) (pos : 0 < L) (few : L ≤ 7) where
           after-write h s cs (refused-too-long h s (sound-after L o pos bytes m) (rw (sofar-after L o pos bytes) l))
           ∙ rw (sofar-after L o pos bytes, later bytes m, lt-leb (length bytes + length s) most l)
 
-  -- the general statement: from the state after L any bytes, as from those bytes as a list
+  -- the general statement: from the state after any bytes, as from those bytes as a list
   pub from-after : (o : Settings) (bytes : List ℕ) (cs : List Call) → length bytes ≤ most → onStates L (after L o bytes) cs ≡ stated o (onList L o bytes cs)
   unfolding onStates onList
   from-after o bytes [] m = refl
@@ -130,7 +130,7 @@ module _ (L : ℕ) (pos : 0 < L) (few : L ≤ 7) where
   from-after o bytes (reset ∷ cs) m = rw (reset-after L o bytes, from-after o [] cs (omega arith))
 
   -- (e) For every sequence of writes, finishes and resets from any opening, the states answer at each step as a plain list of the accepted bytes
-  -- does, refused writes included, and the last state is the opening with those bytes written at once. A finish changes nothing: the calls after L
+  -- does, refused writes included, and the last state is the opening with those bytes written at once. A finish changes nothing: the calls after
   -- it go as if it had not been.
   pub as-a-list : (o : Settings) (cs : List Call)
       → onStates L (openingOf o) cs ≡ record { replies = onList L o [] cs .replies; state = taken L (openingOf o) (onList L o [] cs .bytes) }

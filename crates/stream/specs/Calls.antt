@@ -1,4 +1,5 @@
--- Sequences of calls on a stream of L lanes, run on states and run on a plain list of the accepted bytes. Assumes nothing.
+-- Sequences of calls on a stream of L lanes (docs/RULES.md, section 5.3), run on states and run on a plain list of the accepted bytes. Assumes
+-- nothing.
 use Prim.Native.Nat.{ℕ, _+_, _-_, _*_}
 use mathlib.Core.Bool.{Bool}
 use mathlib.Core.List.{List, [], _∷_, _++_}

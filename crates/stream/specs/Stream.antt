@@ -1,4 +1,4 @@
--- The stream by one byte (the scope's "The stream"), over the number of lanes L; a chunk has 16 L bytes. Assumes nothing.
+-- The stream by one byte (docs/RULES.md, section 5.1), over the number of lanes L; a chunk has 16 L bytes. Assumes nothing.
 use Prim.Native.Nat.{ℕ, zero, suc, _+_, _-_, _*_}
 use mathlib.Core.Bool.{Bool}
 use mathlib.Core.List.{List, [], _∷_, _++_}

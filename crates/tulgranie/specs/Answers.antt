@@ -1,4 +1,4 @@
--- The answers of the library as the rules' own. Assumes nothing.
+-- The answers of the library for C as the rules' own (docs/RULES.md, section 8). Assumes nothing.
 use Rattle.secrets.specs.Numbers.{Returned}
 use Rattle.stream.specs.State.{Said, Answer as Wrote, Ended}
 use Rattle.stream.specs.declared.rapid_stream_hasher.RapidStreamHasher.{RapidStreamHasher}
