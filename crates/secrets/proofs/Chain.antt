@@ -1,9 +1,12 @@
 -- Windows, premixes and links one after another, to what `seed`, `reseed` and `seed_cpp` make. Assumes nothing.
 use Prim.Native.Nat.{ℕ, _≤_, _<_}
-use mathlib.Core.Path.{_≡_}
+use mathlib.Core.Path.{_≡_, refl}
+use mathlib.Core.Bool.{true}
 use mathlib.Core.List.{[], _∷_}
 use lib.ListN.{getD}
 use borrow.Author.Tests.{le-leb, lt-leb}
+use Rattle.secrets.specs.Choice.{allAre}
+use Rattle.secrets.specs.Mix.{low, high, mum, mix}
 use Rattle.secrets.specs.Numbers.{done, pastEnd}
 use Rattle.secrets.specs.Secrets.{defaults, mend, repair, stirred, premix, chain, seedOf, reseedOf, seedCpp, secretOf}
 use Rattle.secrets.specs.declared.v3.seed.RapidSecrets.{RapidSecrets}
@@ -43,3 +46,8 @@ module _ (x : RapidSecrets) (i : ℕ) where
   -- none over it
   pub secret-past : 6 < i → pastEnd ≡ secretOf x i
   secret-past h = rw (lt-leb i 6 h)
+
+-- secrets that `seed` makes need not differ from each other: of this number all seven are the number itself
+pub secrets-alike : allAre 0x4b33a62ed433d4a3 (seedOf 0x4b33a62ed433d4a3 .secrets) ≡ true
+unfolding allAre seedOf chain premix stirred repair mend defaults mix mum low high
+secrets-alike = refl
