@@ -18,7 +18,7 @@ use Rattle.label.specs.declared.field.Why.the-variants.{TooLong}
 use Rattle.label.proofs.Lookups.{reading-apart}
 use Rattle.label.proofs.ReadingLaws.{read-too-long}
 use Rattle.secrets.specs.declared.v3.seed.RapidSecrets.{RapidSecrets}
-use Rattle.stream.specs.State.{most, Answer, answered, openingOf, writeOf, finishOf, Ended, ended}
+use Rattle.stream.specs.State.{most, AfterWrite, answered, openingOf, writeOf, finishOf, Ended, ended}
 use Rattle.stream.specs.declared.rapid_stream_hasher.Settings.{Settings}
 use Rattle.stream.specs.declared.rapid_stream_hasher.RapidStreamHasher.{RapidStreamHasher}
 use Rattle.stream.specs.declared.rapid_stream_hasher.Written.{Written}
@@ -32,7 +32,7 @@ module _ (o : Settings) where
   -- a write after any bytes that leave room
   written : (xs v : List ℕ) → length xs + length v ≤ most → writeOf 7 (after 7 o xs) v .state ≡ after 7 o (xs ++ v)
   written xs v h =
-      ap (λ (a : Answer). a .state)
+      ap (λ (a : AfterWrite). a .state)
       (taken-when 7 some-lanes few-lanes (after 7 o xs) v (sound-after 7 o some-lanes xs (omega arith)) (rw (sofar-after 7 o some-lanes xs) h))
       ∙ taken-after 7 some-lanes few-lanes o xs v
 
@@ -52,7 +52,7 @@ module _ (o : Settings) where
 -- a value written is the field's
 pub value-written : (h : RapidStreamHasher) (s : List ℕ) (w : Written) {p : List ℕ} {l m : Lookup} → answered w ≡ writeOf 7 h p → p ≡ valueOf s l → l ≡ m
     → w .state ≡ writeOf 7 h (valueOf s m) .state
-value-written h s w {p} {l} {m} e b k = ap (λ (a : Answer). a .state) e ∙ rw (b, k)
+value-written h s w {p} {l} {m} e b k = ap (λ (a : AfterWrite). a .state) e ∙ rw (b, k)
 
 -- a value has no more bytes than the record
 short-value : (s : List ℕ) (l : Lookup) → length s ≤ 8192 → length (valueOf s l) ≤ 8192

@@ -12,8 +12,8 @@ use borrow.Author.Tests.{eq-eqb, ne-eqb, eqb-true}
 use Rattle.secrets.specs.Choice.{pick}
 use Rattle.rapidhash.specs.Words.{word}
 use Rattle.label.specs.Label.{table, headerOf, Walked, walkOf, withTag, isField, isGood, readOf, valueOf}
-use Rattle.label.specs.Rows.{Stands, field, Reached, start, next, Reads, good}
-use Rattle.label.specs.Good.{Plain, written, joined, Ascending, none, above, InTable, none as no-fields, sized, Present, here, later, GoodRecord, plain}
+use Rattle.label.specs.Rows.{Stands, field, LedTo, start, next, Reads, good}
+use Rattle.label.specs.Good.{Plain, written, laidOut, Ascending, none, above, InTable, none as no-fields, sized, Present, here, later, GoodRecord, plain}
 use Rattle.label.specs.declared.field.Field.{Field}
 use Rattle.label.specs.declared.field.Lookup.the-variants.{At}
 use Rattle.label.specs.declared.reading.Reading.the-variants.{Good}
@@ -47,7 +47,7 @@ module _ (s : List ℕ) (t : ℕ) where
 
 -- what is described from a place on, after a tag
 pub record Described (s : List ℕ) (at before : ℕ) (ps : List Plain) : Type 0 where
-  pub joins : drop at s ≡ joined ps
+  pub joins : drop at s ≡ laidOut ps
   pub ascends : Ascending before ps
   pub lengths : InTable ps
 
@@ -55,7 +55,7 @@ module _ (s : List ℕ) where
   -- a field that stands before what is described is described with it
   one-before : Bytes s → {at before : ℕ} {f : Field} {ps : List Plain} → Stands s at before (At f) → Described s (f .start + f .length) (f .tag) ps
       → Described s at before (plain s f ∷ ps)
-  unfolding joined
+  unfolding laidOut
   one-before bytes {at} {before} {f} {ps} st d =
       let h = standing s at before st in
       let n = value-length s at before bytes h in
@@ -66,7 +66,7 @@ module _ (s : List ℕ) where
       }
 
   -- and so are all that lead to a place
-  described : Bytes s → {at before : ℕ} {fs : List Field} {ps : List Plain} → Reached s at before fs → Described s at before ps
+  described : Bytes s → {at before : ℕ} {fs : List Field} {ps : List Plain} → LedTo s at before fs → Described s at before ps
       → Described s 0 0 (map (plain s) fs ++ ps)
   described bytes start d = d
   described bytes {ps = ps} (next {at} {before} {fs} {f} r st) d =
@@ -75,7 +75,7 @@ module _ (s : List ℕ) where
   -- what is described from a place on is read from there
   read-back : (ps : List Plain) (at before : ℕ) → Described s at before ps
       → (rest s at before .ends ≡ Good) × (map (plain s) (rest s at before .fields) ≡ ps)
-  unfolding joined valueOf
+  unfolding laidOut valueOf
   read-back [] at before d =
       let n : length s - at ≡ 0 = sym (length-drop at s) ∙ ap length (d .joins) in
       let e = rest-done s at before (omega arith) in
@@ -86,26 +86,26 @@ module _ (s : List ℕ) where
       f = record { tag = getD s at 0; place = at; start = at + 3; length = word 2 s (at + 1) }
 
       go : Ascending before (p ∷ ps) → InTable (p ∷ ps)
-          → (drop (at + 3 + word 2 s (at + 1)) s ≡ joined ps → Ascending (getD s at 0) ps → InTable ps
+          → (drop (at + 3 + word 2 s (at + 1)) s ≡ laidOut ps → Ascending (getD s at 0) ps → InTable ps
           → (rest s (at + 3 + word 2 s (at + 1)) (getD s at 0) .ends ≡ Good) × (map (plain s) (rest s (at + 3 + word 2 s (at + 1)) (getD s at 0) .fields) ≡ ps))
           → (rest s at before .ends ≡ Good) × (map (plain s) (rest s at before .fields) ≡ p ∷ ps)
       go (above a later-tags) (sized known-tag enough fits later-lengths) further =
-          let e : drop at s ≡ written p ++ joined ps = d .joins in
-          let tag = written-tag s at p (joined ps) e in
-          let n = written-length s at p (joined ps) e in
-          let w = written-within s at p (joined ps) e in
+          let e : drop at s ≡ written p ++ laidOut ps = d .joins in
+          let tag = written-tag s at p (laidOut ps) e in
+          let n = written-length s at p (laidOut ps) e in
+          let w = written-within s at p (laidOut ps) e in
           let known : table (getD s at 0) .known ≡ true = rw tag known-tag in
           let stands : headerOf s at before ≡ At f =
           header-field s at before (omega arith) known (rw tag a) (rw (tag, n) enough) (rw (tag, n) fits) (rw n w) in
           let onward = rest-field s at before f (omega arith) stands in
-          let is : plain s f ≡ p = rw (tag, n, written-value s at p (joined ps) e) in
-          let rest-is = further (rw n (written-rest s at p (joined ps) e)) (rw tag later-tags) later-lengths in
+          let is : plain s f ≡ p = rw (tag, n, written-value s at p (laidOut ps) e) in
+          let rest-is = further (rw n (written-rest s at p (laidOut ps) e)) (rw tag later-tags) later-lengths in
           (rw onward (rest-is .0), rw (onward, is, rest-is .1))
 
   module _ (bytes : Bytes s) where
     -- a record that is read as good is a good record of the fields that were read
     pub read-is-good : readOf s ≡ Good → GoodRecord s (map (plain s) (walkOf s .fields))
-    unfolding joined
+    unfolding laidOut
     read-is-good e = go (exactly s Good .1 e)
       where
         go : Reads s Good → GoodRecord s (map (plain s) (walkOf s .fields))

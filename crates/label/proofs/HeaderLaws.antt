@@ -10,7 +10,7 @@ use borrow.Author.Tests.{le-leb, lt-leb, lt-ltb, le-ltb}
 use Rattle.secrets.specs.Choice.{every}
 use Rattle.rapidhash.specs.Words.{word}
 use Rattle.rapidhash.proofs.Tests.{same-leb}
-use Rattle.label.specs.Label.{table, refusedAt, within, fieldOf, headerOf}
+use Rattle.label.specs.Label.{table, refusedAt, allows, fieldOf, headerOf}
 use Rattle.label.specs.declared.field.Lengths.{Lengths}
 use Rattle.label.specs.declared.field.Why.the-variants.{Cut, NoSuchTag, NotAbove, BadLength}
 use Rattle.label.specs.declared.field.Lookup.the-variants.{At}
@@ -38,11 +38,11 @@ module _ (s : List ℕ) (at before : ℕ) where
     field-not-above a = rw (known, a)
 
     module _ (above : ltb before (getD s at 0) ≡ true) where
-      pub field-bad-length : within (table (getD s at 0)) (word 2 s (at + 1)) ≡ false → fieldOf s at before ≡ refusedAt BadLength at
+      pub field-bad-length : allows (table (getD s at 0)) (word 2 s (at + 1)) ≡ false → fieldOf s at before ≡ refusedAt BadLength at
       unfolding fieldOf
       field-bad-length f = rw (known, above, f)
 
-      module _ (fits : within (table (getD s at 0)) (word 2 s (at + 1)) ≡ true) where
+      module _ (fits : allows (table (getD s at 0)) (word 2 s (at + 1)) ≡ true) where
         pub field-cut : leb (at + 3 + word 2 s (at + 1)) (length s) ≡ false → fieldOf s at before ≡ refusedAt Cut at
         unfolding fieldOf
         field-cut w = rw (known, above, fits, w)
@@ -53,10 +53,10 @@ module _ (s : List ℕ) (at before : ℕ) where
         field-whole e w = rw (known, above, fits, w, e)
 
 -- the limits of a row
-pub too-short : (row : Lengths) (n : ℕ) → n < row .least → within row n ≡ false
+pub too-short : (row : Lengths) (n : ℕ) → n < row .least → allows row n ≡ false
 too-short row n h = rw (lt-leb (row .least) n h)
 
-pub long-enough : (row : Lengths) (n : ℕ) → row .least ≤ n → within row n ≡ leb n (row .most)
+pub long-enough : (row : Lengths) (n : ℕ) → row .least ≤ n → allows row n ≡ leb n (row .most)
 long-enough row n h = rw (le-leb (row .least) n h) (go (leb n (row .most)))
   where
     go : (b : Bool) → every (b ∷ []) ≡ b
@@ -69,7 +69,7 @@ module _ (s : List ℕ) (at : ℕ) {row : Lengths} (is-row : row ≡ table (getD
   known-as e = ap (λ (l : Lengths). l .known) (sym is-row) ∙ e
 
   module _ {n : ℕ} (is-n : n ≡ word 2 s (at + 1)) where
-    pub fits-as : {f b : Bool} → f ≡ within row n → f ≡ b → within (table (getD s at 0)) (word 2 s (at + 1)) ≡ b
+    pub fits-as : {f b : Bool} → f ≡ allows row n → f ≡ b → allows (table (getD s at 0)) (word 2 s (at + 1)) ≡ b
     fits-as is-f e = rw (← is-row, ← is-n) (sym is-f ∙ e)
 
 pub whole-as : (s : List ℕ) (at : ℕ) {n left : ℕ} {b : Bool} → at + 3 ≤ length s → n ≡ word 2 s (at + 1) → left ≡ length s - (at + 3) → leb n left ≡ b
@@ -110,7 +110,7 @@ module _ (s : List ℕ) (at before : ℕ) where
               (long-enough (table (getD s at 0)) (word 2 s (at + 1)) enough ∙ lt-leb (word 2 s (at + 1)) (table (getD s at 0) .most) h)
 
           module _ (most : word 2 s (at + 1) ≤ table (getD s at 0) .most) where
-            fits : within (table (getD s at 0)) (word 2 s (at + 1)) ≡ true
+            fits : allows (table (getD s at 0)) (word 2 s (at + 1)) ≡ true
             fits = long-enough (table (getD s at 0)) (word 2 s (at + 1)) enough ∙ le-leb (word 2 s (at + 1)) (table (getD s at 0) .most) most
 
             pub value-cut : length s < at + 3 + word 2 s (at + 1) → headerOf s at before ≡ refusedAt Cut at

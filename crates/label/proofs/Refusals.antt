@@ -7,7 +7,7 @@ use native.Mathlib.Omega.{arith}
 use native.Mathlib.Decide.{decLe, decLt}
 use lib.ListN.{length}
 use Rattle.label.specs.Label.{badAt, headerOf, Walked, walkOf, withTag, isField, isGood, complete, readOf}
-use Rattle.label.specs.Rows.{Stands, Reached, start, next, Reads, overlong, unreadable, missingFirst, missingSecond, good}
+use Rattle.label.specs.Rows.{Stands, LedTo, start, next, Reads, overlong, unreadable, missingFirst, missingSecond, good}
 use Rattle.label.specs.declared.field.Why.the-variants.{Missing}
 use Rattle.label.specs.declared.field.Refusal.{Refusal}
 use Rattle.label.specs.declared.field.Field.{Field}
@@ -21,12 +21,12 @@ use Rattle.label.proofs.ReadingLaws.{read-too-long, read-bad, read-miss
 
 module _ (s : List ℕ) where
   -- fields lead to places in the record
-  reached-within : {at before : ℕ} {fs : List Field} → Reached s at before fs → at ≤ length s
+  reached-within : {at before : ℕ} {fs : List Field} → LedTo s at before fs → at ≤ length s
   reached-within start = omega arith
   reached-within (next r st) = standing s _ _ st .within
 
   -- the fields that lead to a place are the record's first, and the rest follows from there
-  reached-walk : {at before : ℕ} {fs : List Field} → Reached s at before fs
+  reached-walk : {at before : ℕ} {fs : List Field} → LedTo s at before fs
       → walkOf s ≡ record { fields = fs ++ rest s at before .fields; ends = rest s at before .ends }
   reached-walk start = walk-is-rest s
   reached-walk (next {at} {before} {fs} {f} r st) =
@@ -35,7 +35,7 @@ module _ (s : List ℕ) where
       ∙ rw (rest-field s at before f (omega arith) (stands-read s at before st), append-assoc)
 
   -- where they lead to the end they are all
-  module _ {before : ℕ} {fs : List Field} (r : Reached s (length s) before fs) where
+  module _ {before : ℕ} {fs : List Field} (r : LedTo s (length s) before fs) where
     pub all-walked : walkOf s ≡ record { fields = fs; ends = Good }
     all-walked = reached-walk r ∙ rw (rest-done s (length s) before (omega arith), append-nil)
 
@@ -61,16 +61,16 @@ module _ (s : List ℕ) where
 
   -- from any place that fields lead to, they lead to the end, or to a place where no field stands
   data Ends : Type 0 where
-    whole : {before : ℕ} {fs : List Field} → Reached s (length s) before fs → Ends
-    fault : {at before : ℕ} {fs : List Field} {r : Refusal} → Reached s at before fs → at < length s → Stands s at before (Refused r) → Ends
+    whole : {before : ℕ} {fs : List Field} → LedTo s (length s) before fs → Ends
+    fault : {at before : ℕ} {fs : List Field} {r : Refusal} → LedTo s at before fs → at < length s → Stands s at before (Refused r) → Ends
 
-  at-end : {at before : ℕ} {fs : List Field} → Reached s at before fs → length s ≤ at → Ends
+  at-end : {at before : ℕ} {fs : List Field} → LedTo s at before fs → length s ≤ at → Ends
   at-end {at} {before} {fs} r h =
       let w = reached-within r in
       let e : at ≡ length s = omega arith in
-      whole (subst (λ (k : ℕ). Reached s k before fs) e r)
+      whole (subst (λ (k : ℕ). LedTo s k before fs) e r)
 
-  ends : (n : ℕ) {at before : ℕ} {fs : List Field} → length s ≤ at + n → Reached s at before fs → Ends
+  ends : (n : ℕ) {at before : ℕ} {fs : List Field} → length s ≤ at + n → LedTo s at before fs → Ends
   ends zero h r = at-end r (omega arith)
   ends (suc n) {at} {before} {fs} h r = go (decLt at (length s)) (headerOf s at before) (read-stands s at before) (λ f st. ends n (let k = standing s at before st in omega arith) (next r st))
     where
@@ -86,7 +86,7 @@ module _ (s : List ℕ) where
       is : {r : Reading} → Reads s r → Reads s (readOf s)
       is h = rw (rows-read h) h
 
-      required : {before : ℕ} {fs : List Field} → length s ≤ 8192 → Reached s (length s) before fs → (a b : Bool) → isField (withTag 1 fs) ≡ a
+      required : {before : ℕ} {fs : List Field} → length s ≤ 8192 → LedTo s (length s) before fs → (a b : Bool) → isField (withTag 1 fs) ≡ a
           → isField (withTag 2 fs) ≡ b → Reads s (readOf s)
       required h l false b o t = is (missingFirst h l o)
       required h l true false o t = is (missingSecond h l t)

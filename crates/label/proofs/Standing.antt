@@ -9,7 +9,7 @@ use native.Mathlib.Nat.{lt-of-not-le}
 use lib.ListN.{length, getD}
 use Rattle.rapidhash.specs.Words.{word}
 use Rattle.label.specs.Label.{table, headerOf}
-use Rattle.label.specs.Rows.{Stands, headerCut, noSuchTag, notAbove, tooShort, tooLong, valueCut, field}
+use Rattle.label.specs.Rows.{Stands, headerCut, noSuchTag, notAbove, lengthShort, lengthLong, valueCut, field}
 use Rattle.label.specs.declared.field.Field.{Field}
 use Rattle.label.specs.declared.field.Lookup.{Lookup}
 use Rattle.label.specs.declared.field.Lookup.the-variants.{At}
@@ -21,8 +21,8 @@ module _ (s : List ℕ) (at before : ℕ) where
   stands-read (headerCut h) = header-cut s at before h
   stands-read (noSuchTag w n) = header-no-field s at before w n
   stands-read (notAbove w k n) = header-not-above s at before w k n
-  stands-read (tooShort w k a n) = header-too-short s at before w k a n
-  stands-read (tooLong w k a e n) = header-too-long s at before w k a e n
+  stands-read (lengthShort w k a n) = header-too-short s at before w k a n
+  stands-read (lengthLong w k a e n) = header-too-long s at before w k a e n
   stands-read (valueCut w k a e f n) = value-cut s at before w k a e f n
   stands-read (field w k a e f h) = header-field s at before w k a e f h
 
@@ -41,12 +41,12 @@ module _ (s : List ℕ) (at before : ℕ) where
       most-of : at + 3 ≤ length s → table (getD s at 0) .known ≡ true → before < getD s at 0 → table (getD s at 0) .least ≤ word 2 s (at + 1)
           → Dec (word 2 s (at + 1) ≤ table (getD s at 0) .most) → Stands s at before (headerOf s at before)
       most-of w k a e (yes f) = value w k a e f (decLe (at + 3 + word 2 s (at + 1)) (length s))
-      most-of w k a e (no n) = stands (header-too-long s at before w k a e (lt-of-not-le n)) (tooLong w k a e (lt-of-not-le n))
+      most-of w k a e (no n) = stands (header-too-long s at before w k a e (lt-of-not-le n)) (lengthLong w k a e (lt-of-not-le n))
 
       least-of : at + 3 ≤ length s → table (getD s at 0) .known ≡ true → before < getD s at 0
           → Dec (table (getD s at 0) .least ≤ word 2 s (at + 1)) → Stands s at before (headerOf s at before)
       least-of w k a (yes e) = most-of w k a e (decLe (word 2 s (at + 1)) (table (getD s at 0) .most))
-      least-of w k a (no n) = stands (header-too-short s at before w k a (lt-of-not-le n)) (tooShort w k a (lt-of-not-le n))
+      least-of w k a (no n) = stands (header-too-short s at before w k a (lt-of-not-le n)) (lengthShort w k a (lt-of-not-le n))
 
       above : at + 3 ≤ length s → table (getD s at 0) .known ≡ true → Dec (getD s at 0 ≤ before) → Stands s at before (headerOf s at before)
       above w k (yes n) = stands (header-not-above s at before w k n) (notAbove w k n)

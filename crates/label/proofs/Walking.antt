@@ -9,7 +9,7 @@ use native.Mathlib.Decide.{decLt}
 use lib.ListN.{length}
 use borrow.Author.Tests.{lt-ltb, le-ltb, eq-eqb, ne-eqb}
 use Rattle.label.specs.Numbers.{toldLookup}
-use Rattle.label.specs.Label.{headerOf, Walked, ended, onward, walkFrom, walkOf, notListed, withTag}
+use Rattle.label.specs.Label.{headerOf, Walked, noMore, onward, walkFrom, walkOf, notListed, withTag}
 use Rattle.label.specs.declared.field.Refusal.{Refusal}
 use Rattle.label.specs.declared.field.Field.{Field}
 use Rattle.label.specs.declared.field.Lookup.{Lookup}
@@ -27,7 +27,7 @@ same-onward go on (Refused r) h = refl
 
 module _ (s : List ℕ) where
   -- at the end there is nothing more
-  no-more : (n at before : ℕ) → length s ≤ at → walkFrom n s at before ≡ ended
+  no-more : (n at before : ℕ) → length s ≤ at → walkFrom n s at before ≡ noMore
   unfolding walkFrom
   no-more zero at before h = refl
   no-more (suc n) at before h = rw (le-ltb at (length s) h)
@@ -65,7 +65,7 @@ module _ (s : List ℕ) where
   unfolding walkOf rest
   walk-is-rest = refl
 
-  pub rest-done : (at before : ℕ) → length s ≤ at → rest at before ≡ ended
+  pub rest-done : (at before : ℕ) → length s ≤ at → rest at before ≡ noMore
   unfolding rest
   rest-done at before h = no-more (length s) at before h
 

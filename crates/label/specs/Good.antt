@@ -20,9 +20,9 @@ abbrev pub written : Plain → List ℕ
 written p = p .tag ∷ length (p .value) % 256 ∷ length (p .value) / 256 ∷ p .value
 
 -- fields written one after another
-unfoldable pub joined : List Plain → List ℕ
-joined [] = []
-joined (p ∷ ps) = written p ++ joined ps
+unfoldable pub laidOut : List Plain → List ℕ
+laidOut [] = []
+laidOut (p ∷ ps) = written p ++ laidOut ps
 
 -- each tag is above the one before
 pub data Ascending : ℕ → List Plain → Type 0 where
@@ -43,7 +43,7 @@ pub data Present (t : ℕ) : List Plain → Type 0 where
 -- a good record of given fields
 pub record GoodRecord (s : List ℕ) (ps : List Plain) : Type 0 where
   pub short : length s ≤ 8192
-  pub joins : s ≡ joined ps
+  pub joins : s ≡ laidOut ps
   pub ascends : Ascending 0 ps
   pub lengths : InTable ps
   pub first : Present 1 ps

@@ -55,8 +55,8 @@ abbrev pub rowAt : List ℕ → ℕ → Lengths
 rowAt s at = table (tagAt s at)
 
 -- whether a row of the table has a length
-abbrev pub within : Lengths → ℕ → Bool
-within row n = every (leb (row .least) n ∷ leb n (row .most) ∷ [])
+abbrev pub allows : Lengths → ℕ → Bool
+allows row n = every (leb (row .least) n ∷ leb n (row .most) ∷ [])
 
 -- of a header at a place: the table must have the tag, the tag be above the one before, the length be within the limits, and the value end
 -- within the record
@@ -64,7 +64,7 @@ unfoldable pub fieldOf : List ℕ → ℕ → ℕ → Lookup
 fieldOf s at before =
     pick (rowAt s at .known)
     (pick (ltb before (tagAt s at))
-    (pick (within (rowAt s at) (sizeAt s at))
+    (pick (allows (rowAt s at) (sizeAt s at))
     (pick (leb (at + 3 + sizeAt s at) (length s))
     (At (record { tag = tagAt s at; place = at; start = at + 3; length = sizeAt s at }))
     (refusedAt Cut at))
@@ -86,8 +86,8 @@ pub record Walked : Type 0 where
   pub ends : Reading
 
 -- the record's end
-abbrev pub ended : Walked
-ended = record { fields = []; ends = Good }
+abbrev pub noMore : Walked
+noMore = record { fields = []; ends = Good }
 
 -- a field before others, which come from its end on; or a refusal, and nothing more
 unfoldable pub onward : (Field → Walked) → Lookup → Walked
@@ -96,9 +96,9 @@ onward next (Refused r) = record { fields = []; ends = Bad r }
 
 -- the fields from a place on, after a tag, at most n of them
 unfoldable pub walkFrom : ℕ → List ℕ → ℕ → ℕ → Walked
-walkFrom zero s at before = ended
+walkFrom zero s at before = noMore
 walkFrom (suc n) s at before =
-    pick (ltb at (length s)) (onward (λ f. walkFrom n s (f .start + f .length) (f .tag)) (headerOf s at before)) ended
+    pick (ltb at (length s)) (onward (λ f. walkFrom n s (f .start + f .length) (f .tag)) (headerOf s at before)) noMore
 
 -- the fields of a record: it has fewer than bytes
 unfoldable pub walkOf : List ℕ → Walked

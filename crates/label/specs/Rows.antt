@@ -21,9 +21,9 @@ pub data Stands (s : List ℕ) (at before : ℕ) : Lookup → Type 0 where
   noSuchTag : at + 3 ≤ length s → rowAt s at .known ≡ false → Stands s at before (refusedAt NoSuchTag at)
   notAbove : at + 3 ≤ length s → rowAt s at .known ≡ true → tagAt s at ≤ before
       → Stands s at before (refusedAt NotAbove at)
-  tooShort : at + 3 ≤ length s → rowAt s at .known ≡ true → before < tagAt s at
+  lengthShort : at + 3 ≤ length s → rowAt s at .known ≡ true → before < tagAt s at
       → sizeAt s at < rowAt s at .least → Stands s at before (refusedAt BadLength at)
-  tooLong : at + 3 ≤ length s → rowAt s at .known ≡ true → before < tagAt s at
+  lengthLong : at + 3 ≤ length s → rowAt s at .known ≡ true → before < tagAt s at
       → rowAt s at .least ≤ sizeAt s at → rowAt s at .most < sizeAt s at → Stands s at before (refusedAt BadLength at)
   valueCut : at + 3 ≤ length s → rowAt s at .known ≡ true → before < tagAt s at
       → rowAt s at .least ≤ sizeAt s at → sizeAt s at ≤ rowAt s at .most → length s < at + 3 + sizeAt s at → Stands s at before (refusedAt Cut at)
@@ -32,22 +32,22 @@ pub data Stands (s : List ℕ) (at before : ℕ) : Lookup → Type 0 where
       → Stands s at before (At (record { tag = tagAt s at; place = at; start = at + 3; length = sizeAt s at }))
 
 -- a place that fields lead to from the record's first byte, one after another, with the last one's tag and all of them
-pub data Reached (s : List ℕ) : ℕ → ℕ → List Field → Type 0 where
-  start : Reached s 0 0 []
-  next : {at before : ℕ} {fs : List Field} {f : Field} → Reached s at before fs → Stands s at before (At f)
-      → Reached s (f .start + f .length) (f .tag) (fs ++ (f ∷ []))
+pub data LedTo (s : List ℕ) : ℕ → ℕ → List Field → Type 0 where
+  start : LedTo s 0 0 []
+  next : {at before : ℕ} {fs : List Field} {f : Field} → LedTo s at before fs → Stands s at before (At f)
+      → LedTo s (f .start + f .length) (f .tag) (fs ++ (f ∷ []))
 
 -- what reading comes to. 5: over 8,192 bytes. 6 to 9: else at the first place, before the end, where no field stands. 10: else a required tag is
 -- missing. Else the record is good
 pub data Reads (s : List ℕ) : Reading → Type 0 where
   overlong : 8192 < length s → Reads s (badAt TooLong 0)
-  unreadable : {at before : ℕ} {fs : List Field} {r : Refusal} → length s ≤ 8192 → Reached s at before fs → at < length s
+  unreadable : {at before : ℕ} {fs : List Field} {r : Refusal} → length s ≤ 8192 → LedTo s at before fs → at < length s
       → Stands s at before (Refused r) → Reads s (Bad r)
-  missingFirst : {before : ℕ} {fs : List Field} → length s ≤ 8192 → Reached s (length s) before fs → isField (withTag 1 fs) ≡ false
+  missingFirst : {before : ℕ} {fs : List Field} → length s ≤ 8192 → LedTo s (length s) before fs → isField (withTag 1 fs) ≡ false
       → Reads s (badAt Missing (length s))
-  missingSecond : {before : ℕ} {fs : List Field} → length s ≤ 8192 → Reached s (length s) before fs → isField (withTag 2 fs) ≡ false
+  missingSecond : {before : ℕ} {fs : List Field} → length s ≤ 8192 → LedTo s (length s) before fs → isField (withTag 2 fs) ≡ false
       → Reads s (badAt Missing (length s))
-  good : {before : ℕ} {fs : List Field} → length s ≤ 8192 → Reached s (length s) before fs → isField (withTag 1 fs) ≡ true
+  good : {before : ℕ} {fs : List Field} → length s ≤ 8192 → LedTo s (length s) before fs → isField (withTag 1 fs) ≡ true
       → isField (withTag 2 fs) ≡ true → Reads s Good
 
 -- no tag of a list is among the fields

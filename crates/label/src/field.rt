@@ -5,7 +5,7 @@ ghost use Prim.Native.Nat.{_+_, _-_, _*_, _<_, _≤_};
 ghost use lib.ListN.{length};
 ghost use Rattle.rapidhash.specs.Words.{word};
 ghost use Rattle.label.specs.Numbers.{numberOf, toldLookup};
-ghost use Rattle.label.specs.Label.{lengths, noField, table, refusedAt, within, fieldOf, headerOf};
+ghost use Rattle.label.specs.Label.{lengths, noField, table, refusedAt, allows, fieldOf, headerOf};
 
 // Why a record, or a search in it, is refused.
 pub enum Why {
@@ -118,7 +118,7 @@ fn field_at(record: &[u8], place: usize, before: u8) -> Lookup
     let row = lengths_of(tag);
     let known = row.known;
     let above = before < tag;
-    let fits = is_within(row, length);
+    let fits = is_allowed(row, length);
     let whole = length <= left_from(record, place + 3);
     if !known {
         return refused(Why::NoSuchTag, place);
@@ -140,8 +140,8 @@ fn field_at(record: &[u8], place: usize, before: u8) -> Lookup
     })
 }
 
-fn is_within(row: Lengths, length: usize) -> bool
-    ensures { λ r. ⌜ r ≡ within row length ⌝ }
+fn is_allowed(row: Lengths, length: usize) -> bool
+    ensures { λ r. ⌜ r ≡ allows row length ⌝ }
 {
     if length < row.least {
         return false;

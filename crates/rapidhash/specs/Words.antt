@@ -12,5 +12,5 @@ word zero s i = 0
 word (suc n) s i = word n s i + getD s (i + n) 0 * 256 ^ n
 
 -- a read of n bytes at an offset: the word, unless it reaches past the end
-abbrev pub readOf : ℕ → List ℕ → ℕ → Returned
-readOf n s i = pick (leb (i + n) (length s)) (done (word n s i)) pastEnd
+abbrev pub wordOf : ℕ → List ℕ → ℕ → Returned
+wordOf n s i = pick (leb (i + n) (length s)) (done (word n s i)) pastEnd

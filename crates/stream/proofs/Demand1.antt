@@ -4,7 +4,7 @@ use Prim.Native.Nat.{ℕ}
 use mathlib.Core.Path.{_≡_, refl, _∙_, ap}
 use native.Mathlib.Omega.{arith}
 use Rattle.secrets.proofs.Demand1.{OneAnswer, one}
-use Rattle.stream.specs.State.{Said, said, Answer, answered, Ended, ended}
+use Rattle.stream.specs.State.{Said, said, AfterWrite, answered, Ended, ended}
 use Rattle.stream.specs.declared.rapid_stream_hasher.RapidStreamHasher.{RapidStreamHasher}
 use Rattle.stream.specs.declared.rapid_stream_hasher.Outcome.{Outcome}
 use Rattle.stream.specs.declared.rapid_stream_hasher.Outcome.the-variants.{Took, NotSound, TooLong}
@@ -48,8 +48,8 @@ written s o = record { state = s; outcome = o }
 
 pub written-apart : (x y : Written) → answered x ≡ answered y → x ≡ y
 written-apart x y e =
-    let a : x .state ≡ y .state = ap (λ (s : Answer). s .state) e in
-    let b : x .outcome ≡ y .outcome = told-apart (x .outcome) (y .outcome) (ap (λ (s : Answer). s .says) e) in
+    let a : x .state ≡ y .state = ap (λ (s : AfterWrite). s .state) e in
+    let b : x .outcome ≡ y .outcome = told-apart (x .outcome) (y .outcome) (ap (λ (s : AfterWrite). s .says) e) in
     ap (λ (s : RapidStreamHasher). written s (x .outcome)) a ∙ ap (λ (o : Outcome). written (y .state) o) b
 
 pub new-one : OneAnswer new.Post

@@ -10,8 +10,8 @@ use lib.ListN.{length, length-append}
 use borrow.Author.Tests.{le-leb, lt-leb}
 use Rattle.rapidhash.specs.Hash.{chunks, hashOf}
 use Rattle.stream.specs.Stream.{opened, feed}
-use Rattle.stream.specs.State.{most, sofar, view, hold, sound, openingOf, said, ended, Answer, taken, writeOf, finishOf, resetOf}
-use Rattle.stream.specs.Calls.{Call, write, finish, reset, wrote, Ran, first, onStates, Listed, onList}
+use Rattle.stream.specs.State.{most, sofar, view, hold, sound, openingOf, said, ended, AfterWrite, taken, writeOf, finishOf, resetOf}
+use Rattle.stream.specs.Calls.{Call, write, finish, reset, wrote, Ran, first, onStates, onList}
 use Rattle.stream.specs.declared.rapid_stream_hasher.Settings.{Settings}
 use Rattle.stream.specs.declared.rapid_stream_hasher.RapidStreamHasher.{RapidStreamHasher}
 use Rattle.stream.specs.declared.rapid_stream_hasher.Outcome.the-variants.{Took, NotSound, TooLong}
@@ -93,14 +93,14 @@ module _ (L : ℕ) (pos : 0 < L) (few : L ≤ 7) where
       go (no n) = rw (refused-too-long h s ok (omega arith)) ok
 
   -- what comes from a write on is what it says, and what comes from its state on
-  after-write : (h : RapidStreamHasher) (s : List ℕ) (cs : List Call) {a : Answer} → writeOf L h s ≡ a
+  after-write : (h : RapidStreamHasher) (s : List ℕ) (cs : List Call) {a : AfterWrite} → writeOf L h s ≡ a
       → onStates L h (write s ∷ cs) ≡ first (wrote (a .says)) (onStates L (a .state) cs)
   unfolding onStates
   after-write h s cs e = rw e
 
   -- the run on states that a run on the list stands for: the same replies, and the state of the bytes
-  abbrev pub stated : Settings → Listed → Ran
-  stated o l = record { replies = l .replies; state = after L o (l .bytes) }
+  abbrev pub stated : Settings → Ran (List ℕ) → Ran RapidStreamHasher
+  stated o l = record { replies = l .replies; last = after L o (l .last) }
 
   -- if the later calls go alike, so do a write and the later calls
   alike-write : (o : Settings) (bytes s : List ℕ) (cs : List Call) → length bytes ≤ most
@@ -133,7 +133,7 @@ module _ (L : ℕ) (pos : 0 < L) (few : L ≤ 7) where
   -- does, refused writes included, and the last state is the opening with those bytes written at once. A finish changes nothing: the calls after
   -- it go as if it had not been.
   pub as-a-list : (o : Settings) (cs : List Call)
-      → onStates L (openingOf o) cs ≡ record { replies = onList L o [] cs .replies; state = taken L (openingOf o) (onList L o [] cs .bytes) }
+      → onStates L (openingOf o) cs ≡ record { replies = onList L o [] cs .replies; last = taken L (openingOf o) (onList L o [] cs .last) }
   as-a-list o cs =
-      let last : taken L (after L o []) (onList L o [] cs .bytes) ≡ after L o (onList L o [] cs .bytes) = taken-after o [] (onList L o [] cs .bytes) in
+      let last : taken L (after L o []) (onList L o [] cs .last) ≡ after L o (onList L o [] cs .last) = taken-after o [] (onList L o [] cs .last) in
       rw (← after-none L o) (from-after o [] cs (omega arith) ∙ rw last)

@@ -10,7 +10,7 @@ use lib.Seq.{append-snoc, length-take-le, take-add, drop-drop}
 use borrow.Author.Tests.{eq-eqb, ne-eqb}
 use Rattle.rapidhash.specs.Hash.{chunks, lanesAfter}
 use Rattle.rapidhash.proofs.Chunks.{chunks-before, chunks-left}
-use Rattle.stream.specs.Stream.{Stream, slide, mixedIn, joinedBy, push, feed}
+use Rattle.stream.specs.Stream.{Stream, slide, mixedIn, withByte, push, feed}
 use Rattle.stream.proofs.Slide.{slide-none, slide-slide}
 
 -- one time more
@@ -25,18 +25,18 @@ module _ (L : ℕ) (p : Bool) (sec : List ℕ) where
   feed-append t (b ∷ bs) ys = feed-append (push L p sec t b) bs ys
 
   -- while there is room a byte only waits
-  push-room : (t : Stream) (b : ℕ) → length (t .rest) < 16 * L → push L p sec t b ≡ joinedBy t b
+  push-room : (t : Stream) (b : ℕ) → length (t .rest) < 16 * L → push L p sec t b ≡ withByte t b
   unfolding push
   push-room t b h = rw (ne-eqb (length (t .rest)) (16 * L) (λ e. omega arith))
 
   -- bytes that fit only wait
   pub feed-short : (t : Stream) (xs : List ℕ) → length (t .rest) + length xs ≤ 16 * L
       → feed L p sec t xs ≡ record { lanes = t .lanes; count = t .count; prev = t .prev; rest = t .rest ++ xs }
-  unfolding feed joinedBy
+  unfolding feed withByte
   feed-short t [] h = rw append-nil
   feed-short t (b ∷ bs) h =
       ap (λ (u : Stream). feed L p sec u bs) (push-room t b (omega arith))
-      ∙ feed-short (joinedBy t b) bs (rw length-append (omega arith))
+      ∙ feed-short (withByte t b) bs (rw length-append (omega arith))
       ∙ rw append-snoc
 
   -- the stream after k chunks of s, with nothing waiting

@@ -9,7 +9,7 @@ use native.Mathlib.Nat.{mul-suc}
 use lib.ListN.{length, length-append}
 use borrow.Author.Tests.{eq-eqb, ne-eqb}
 use Rattle.secrets.specs.Choice.{allAre}
-use Rattle.stream.specs.Stream.{Stream, opened, mixedIn, joinedBy, push, feed}
+use Rattle.stream.specs.Stream.{Stream, opened, mixedIn, withByte, push, feed}
 use Rattle.stream.proofs.Slide.{slide-length}
 
 -- 16 bytes end the previous chunk; at most a chunk waits; before the first chunk the lanes are the seed and the 16 bytes zero; after it at
@@ -39,7 +39,7 @@ total-opened L seed = omega arith
 module _ (L : ℕ) (p : Bool) (sec : List ℕ) (pos : 0 < L) (seed : ℕ) where
   -- a byte keeps it
   pub good-push : (t : Stream) (b : ℕ) → Good L seed t → Good L seed (push L p sec t b)
-  unfolding push mixedIn joinedBy
+  unfolding push mixedIn withByte
   good-push t b g = go (decLe (16 * L) (length (t .rest)))
     where
       go : Dec (16 * L ≤ length (t .rest)) → Good L seed (push L p sec t b)
@@ -64,7 +64,7 @@ module _ (L : ℕ) (p : Bool) (sec : List ℕ) (pos : 0 < L) (seed : ℕ) where
 
   -- and is one more
   total-push : (t : Stream) (b : ℕ) → Good L seed t → total L (push L p sec t b) ≡ total L t + 1
-  unfolding push mixedIn joinedBy
+  unfolding push mixedIn withByte
   total-push t b g = go (decLe (16 * L) (length (t .rest)))
     where
       go : Dec (16 * L ≤ length (t .rest)) → total L (push L p sec t b) ≡ total L t + 1

@@ -6,11 +6,11 @@ use native.Mathlib.Omega.{arith}
 use lib.ListN.{length}
 use borrow.Author.Tests.{le-leb}
 use Rattle.secrets.specs.Numbers.{Returned, returned, done}
-use Rattle.rapidhash.specs.Words.{word, readOf}
+use Rattle.rapidhash.specs.Words.{word, wordOf}
 use Rattle.secrets.specs.declared.util.found.Found.{Found}
 use Rattle.secrets.specs.declared.util.found.Found.the-variants.{Value, PastEnd}
 
-module _ (n : ℕ) (s : List ℕ) (i : ℕ) (r : Found) (e : returned r ≡ readOf n s i) (h : i + n ≤ length s) where
+module _ (n : ℕ) (s : List ℕ) (i : ℕ) (r : Found) (e : returned r ≡ wordOf n s i) (h : i + n ≤ length s) where
   there : returned r ≡ done (word n s i)
   there = e ∙ rw (le-leb (i + n) (length s) h)
 

@@ -25,45 +25,36 @@ pub data Reply : Type 0 where
   finished : Ended → Reply
   didReset : Reply
 
--- what calls on states come to: the replies one after another, and the last state
-pub record Ran : Type 0 where
+-- what calls come to: the replies one after another, and what they lead to
+pub record Ran (A : Type 0) : Type 0 where
   pub replies : List Reply
-  pub state : RapidStreamHasher
+  pub last : A
 
 -- a reply before others
-abbrev pub first : Reply → Ran → Ran
-first r l = record { replies = r ∷ l .replies; state = l .state }
+abbrev pub first : {A : Type 0} → Reply → Ran A → Ran A
+first r l = record { replies = r ∷ l .replies; last = l .last }
 
--- calls on a state
-unfoldable pub onStates : ℕ → RapidStreamHasher → List Call → Ran
-onStates L h [] = record { replies = []; state = h }
+-- calls on a state lead to a state
+unfoldable pub onStates : ℕ → RapidStreamHasher → List Call → Ran RapidStreamHasher
+onStates L h [] = record { replies = []; last = h }
 onStates L h (write s ∷ cs) = first (wrote (writeOf L h s .says)) (onStates L (writeOf L h s .state) cs)
 onStates L h (finish ∷ cs) = first (finished (finishOf L h)) (onStates L h cs)
 onStates L h (reset ∷ cs) = first didReset (onStates L (resetOf h) cs)
-
--- what calls on a plain list of accepted bytes come to: the replies, and the bytes accepted since the last reset
-pub record Listed : Type 0 where
-  pub replies : List Reply
-  pub bytes : List ℕ
-
--- a reply before others
-abbrev pub before : Reply → Listed → Listed
-before r l = record { replies = r ∷ l .replies; bytes = l .bytes }
 
 -- whether a list of bytes may grow by n
 abbrev pub fits : List ℕ → ℕ → Bool
 fits bytes n = leb (length bytes + n) most
 
--- calls on the list: a write adds its bytes, or says how many there is room for; finish is the whole-message hash and the number of chunks
--- that it mixes, and changes nothing; reset empties the list
-unfoldable pub onList : ℕ → Settings → List ℕ → List Call → Listed
-onList L o bytes [] = record { replies = []; bytes = bytes }
+-- calls on a plain list of the accepted bytes lead to such a list: a write adds its bytes, or says how many there is room for; finish is the
+-- whole-message hash and the number of chunks that it mixes, and changes nothing; reset empties the list
+unfoldable pub onList : ℕ → Settings → List ℕ → List Call → Ran (List ℕ)
+onList L o bytes [] = record { replies = []; last = bytes }
 onList L o bytes (write s ∷ cs) =
     pick (fits bytes (length s))
-    (before (wrote (said Took)) (onList L o (bytes ++ s) cs))
-    (before (wrote (said (TooLong (most - length bytes)))) (onList L o bytes cs))
+    (first (wrote (said Took)) (onList L o (bytes ++ s) cs))
+    (first (wrote (said (TooLong (most - length bytes)))) (onList L o bytes cs))
 onList L o bytes (finish ∷ cs) =
-    before
+    first
     (finished (ended (Hash (hashOf L (o .avalanche) (o .protected) (o .secrets) bytes) (chunks (16 * L) (length bytes)))))
     (onList L o bytes cs)
-onList L o bytes (reset ∷ cs) = before didReset (onList L o [] cs)
+onList L o bytes (reset ∷ cs) = first didReset (onList L o [] cs)

@@ -66,12 +66,12 @@ said NotSound = record { number = 1; room = 0 }
 said (TooLong r) = record { number = 2; room = r }
 
 -- a write's answer: the state after it, and what it says
-pub record Answer : Type 0 where
+pub record AfterWrite : Type 0 where
   pub state : RapidStreamHasher
   pub says : Said
 
 -- what the struct that a write returns answers
-abbrev pub answered : Written → Answer
+abbrev pub answered : Written → AfterWrite
 answered w = record { state = w .state; says = said (w .outcome) }
 
 -- the state after all of the bytes
@@ -79,7 +79,7 @@ unfoldable pub taken : ℕ → RapidStreamHasher → List ℕ → RapidStreamHas
 taken L h s = hold (h .settings) (feed L (h .settings .protected) (h .settings .secrets .secrets) (view h) s)
 
 -- write: 1 before 2; a refusal gives the state back
-unfoldable pub writeOf : ℕ → RapidStreamHasher → List ℕ → Answer
+unfoldable pub writeOf : ℕ → RapidStreamHasher → List ℕ → AfterWrite
 writeOf L h s =
     pick (sound L h)
     (pick (leb (sofar L h + length s) most)

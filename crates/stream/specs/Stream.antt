@@ -31,12 +31,12 @@ mixedIn L p sec t =
     record { lanes = chunkStep L p sec (t .rest) (t .lanes); count = t .count + 1; prev = slide (t .prev) (t .rest); rest = [] }
 
 -- a byte comes to those that wait
-unfoldable pub joinedBy : Stream → ℕ → Stream
-joinedBy t b = record { lanes = t .lanes; count = t .count; prev = t .prev; rest = t .rest ++ (b ∷ []) }
+unfoldable pub withByte : Stream → ℕ → Stream
+withByte t b = record { lanes = t .lanes; count = t .count; prev = t .prev; rest = t .rest ++ (b ∷ []) }
 
 -- one byte more: a chunk is mixed only now that at least one byte follows it
 unfoldable pub push : ℕ → Bool → List ℕ → Stream → ℕ → Stream
-push L p sec t b = joinedBy (pick (eqb (length (t .rest)) (16 * L)) (mixedIn L p sec t) t) b
+push L p sec t b = withByte (pick (eqb (length (t .rest)) (16 * L)) (mixedIn L p sec t) t) b
 
 -- byte after byte
 unfoldable pub feed : ℕ → Bool → List ℕ → Stream → List ℕ → Stream

@@ -11,7 +11,7 @@ use denote.Ref.{now}
 use Rattle.secrets.proofs.Demand1.{OneAnswer, one}
 use Rattle.lent.proofs.Demand1.{OneAfter, both}
 use Rattle.stream.specs.declared.rapid_stream_hasher.RapidStreamHasher.{RapidStreamHasher}
-use Rattle.stream.specs.State.{Answer as Wrote, Ended}
+use Rattle.stream.specs.State.{AfterWrite, Ended}
 use Rattle.label.specs.Numbers.{Told}
 use Rattle.tulgranie.specs.Answers.{toldOf, answerOf, endedOf}
 use Rattle.tulgranie.specs.declared.streams.StreamWrote.{StreamWrote}
@@ -50,7 +50,7 @@ after h w = record { state = h; says = w }
 pub written-apart : (x y : StreamWritten) → answerOf x ≡ answerOf y → x ≡ y
 written-apart x y e = ap back e
   where
-    back : Wrote → StreamWritten
+    back : AfterWrite → StreamWritten
     back w = after (w .state) (record { number = w .says .number; room = w .says .room })
 
 pub ended-apart : (x y : StreamEnded) → endedOf x ≡ endedOf y → x ≡ y

@@ -1,6 +1,6 @@
 -- The answers of the library for C as the rules' own (docs/RULES.md, section 8). Assumes nothing.
 use Rattle.secrets.specs.Numbers.{Returned}
-use Rattle.stream.specs.State.{Said, Answer as Wrote, Ended}
+use Rattle.stream.specs.State.{Said, AfterWrite, Ended}
 use Rattle.stream.specs.declared.rapid_stream_hasher.RapidStreamHasher.{RapidStreamHasher}
 use Rattle.label.specs.Numbers.{Told}
 use Rattle.tulgranie.specs.declared.hashes.Value.{Value}
@@ -23,11 +23,11 @@ abbrev pub saidBy : StreamWrote → Said
 saidBy w = record { number = w .number; room = w .room }
 
 -- with the state after it
-abbrev pub wroteWith : RapidStreamHasher → StreamWrote → Wrote
+abbrev pub wroteWith : RapidStreamHasher → StreamWrote → AfterWrite
 wroteWith h w = record { state = h; says = saidBy w }
 
 -- and both in one
-abbrev pub answerOf : StreamWritten → Wrote
+abbrev pub answerOf : StreamWritten → AfterWrite
 answerOf w = wroteWith (w .state) (w .says)
 
 -- what finish finds, as the stream's own

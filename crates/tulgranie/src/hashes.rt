@@ -1,7 +1,7 @@
 // Words, secrets and the one-shot hashes.
 ghost use mathlib.Core.Path.{_≡_};
 ghost use Rattle.secrets.specs.Secrets.{seedOf, reseedOf, seedCpp, secretOf};
-ghost use Rattle.rapidhash.specs.Words.{readOf};
+ghost use Rattle.rapidhash.specs.Words.{wordOf};
 ghost use Rattle.rapidhash.specs.Hash.{hashOf};
 ghost use Rattle.secrets.specs.Numbers.{returned};
 ghost use Rattle.tulgranie.specs.Answers.{valueFor};
@@ -23,7 +23,7 @@ pub struct Value {
 // The 8 bytes at an offset, least significant first.
 #[no_mangle]
 pub extern "C" fn tulgranie_word8(bytes: &[u8], offset: usize) -> Value
-    ensures { λ r. ⌜ r ≡ valueFor (readOf 8 (now (bytes .entry)) offset) ⌝ }
+    ensures { λ r. ⌜ r ≡ valueFor (wordOf 8 (now (bytes .entry)) offset) ⌝ }
 {
     value_of(read_u64(bytes, offset))
 }
@@ -31,7 +31,7 @@ pub extern "C" fn tulgranie_word8(bytes: &[u8], offset: usize) -> Value
 // The 4 bytes at an offset, least significant first.
 #[no_mangle]
 pub extern "C" fn tulgranie_word4(bytes: &[u8], offset: usize) -> Value
-    ensures { λ r. ⌜ r ≡ valueFor (readOf 4 (now (bytes .entry)) offset) ⌝ }
+    ensures { λ r. ⌜ r ≡ valueFor (wordOf 4 (now (bytes .entry)) offset) ⌝ }
 {
     value_of(read_u32(bytes, offset))
 }

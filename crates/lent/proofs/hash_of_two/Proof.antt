@@ -50,7 +50,7 @@ use denote.Exit.{yes}
 use Rattle.secrets.specs.declared.v3.seed.RapidSecrets.{RapidSecrets}
 use Rattle.secrets.proofs.v3.seed.RapidSecrets as P
 use Rattle.secrets.proofs.v3.seed.RapidSecrets.Laws as P′
-use Rattle.stream.specs.State.{Answer, said, ended, openingOf, writeOf, finishOf}
+use Rattle.stream.specs.State.{AfterWrite, said, ended, openingOf, writeOf, finishOf}
 use Rattle.stream.specs.declared.rapid_stream_hasher.RapidStreamHasher.{RapidStreamHasher}
 use Rattle.stream.specs.declared.rapid_stream_hasher.Outcome.{Outcome}
 use Rattle.stream.specs.declared.rapid_stream_hasher.Finished.{Finished}
@@ -160,7 +160,7 @@ module _ {M : Type 1} (𝓤 : URA M) (H : Heap 𝓤) (A : Atoms 𝓤) (at-mem : 
           let L : SProp 𝓤 = sem 𝓤 H A (lasts write.ended (z .0 ∷ [], (κ, tt)) (ref l h (z .1), (d, tt)) ws) in
           let E : Type 0 = record { state = ws .0; says = said u } ≡ writeOf 7 h (d .now) in
           fact-use 𝓤 E (snd∗ 𝓤 L (fact 𝓤 E)) (λ e.
-          subst (λ (w : RapidStreamHasher). ent 𝓤 (sep 𝓤 L (fact 𝓤 E)) (A .res (z .1) (R .coded .code w))) (ap (λ (x : Answer). x .state) e)
+          subst (λ (w : RapidStreamHasher). ent 𝓤 (sep 𝓤 L (fact 𝓤 E)) (A .res (z .1) (R .coded .code w))) (ap (λ (x : AfterWrite). x .state) e)
           (via 𝓤 L (fst∗ 𝓤 L (fact 𝓤 E)) (fst∗ 𝓤 (A .res (z .1) (R .coded .code (ws .0))) (sep 𝓤 (emp 𝓤) (emp 𝓤))))))
 
       -- the hasher comes back, in the state after the write

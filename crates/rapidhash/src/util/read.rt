@@ -8,12 +8,12 @@ ghost use lib.Dec.{leb};
 ghost use lib.ListN.{length};
 ghost use Rattle.secrets.specs.Choice.{allAre};
 ghost use Rattle.secrets.specs.Numbers.{returned};
-ghost use Rattle.rapidhash.specs.Words.{word, readOf};
+ghost use Rattle.rapidhash.specs.Words.{word, wordOf};
 use secrets::util::found::Found;
 
 // The 8 bytes at an offset.
 pub fn read_u64(bytes: &[u8], offset: usize) -> Found
-    ensures { λ r. ⌜ returned r ≡ readOf 8 (now (bytes .entry)) offset ⌝ }
+    ensures { λ r. ⌜ returned r ≡ wordOf 8 (now (bytes .entry)) offset ⌝ }
 {
     if within(bytes, offset, 8) {
         Found::Value(word8(bytes, offset))
@@ -24,7 +24,7 @@ pub fn read_u64(bytes: &[u8], offset: usize) -> Found
 
 // The 4 bytes at an offset.
 pub fn read_u32(bytes: &[u8], offset: usize) -> Found
-    ensures { λ r. ⌜ returned r ≡ readOf 4 (now (bytes .entry)) offset ⌝ }
+    ensures { λ r. ⌜ returned r ≡ wordOf 4 (now (bytes .entry)) offset ⌝ }
 {
     if within(bytes, offset, 4) {
         Found::Value(word4(bytes, offset))

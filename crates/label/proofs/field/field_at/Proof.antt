@@ -39,7 +39,7 @@ returns-3 c =
     let n = k .before .before .before .length-at .ensures in
     c .refused3 .ensures ∙ sym (field-bad-length _ _ _ (known-as (a .«record» .now) (a .place) row (not-false _
     (c .before .before .before .if1 .left))) (not-false _ (c .before .before .if2 .left))
-    (fits-as (a .«record» .now) (a .place) row n (k .before .is-within .ensures) (not-true _ (c .before .if3 .taken))))
+    (fits-as (a .«record» .now) (a .place) row n (k .before .is-allowed .ensures) (not-true _ (c .before .if3 .taken))))
 
 returns-4 : tie.Need-returns-4
 returns-4 c =
@@ -49,7 +49,7 @@ returns-4 c =
     let n = k .before .before .before .length-at .ensures in
     c .refused4 .ensures ∙ sym (field-cut _ _ _ (known-as (a .«record» .now) (a .place) row (not-false _
     (c .before .before .before .before .if1 .left))) (not-false _ (c .before .before .before .if2 .left))
-    (fits-as (a .«record» .now) (a .place) row n (k .before .is-within .ensures) (not-false _ (c .before .before .if3 .left)))
+    (fits-as (a .«record» .now) (a .place) row n (k .before .is-allowed .ensures) (not-false _ (c .before .before .if3 .left)))
     (whole-as (a .«record» .now) (a .place) (omega arith) n (k .left-from .ensures) (not-true _ (c .before .if4 .taken))))
 
 returns-5 : tie.Need-returns-5
@@ -59,7 +59,7 @@ returns-5 c =
     let row = k .before .before .lengths-of .ensures in
     let n = k .before .before .before .length-at .ensures in
     sym (field-whole (a .«record» .now) (a .place) (a .before) (known-as (a .«record» .now) (a .place) row (not-false _ (c .before .before .before .if1 .left)))
-    (not-false _ (c .before .before .if2 .left)) (fits-as (a .«record» .now) (a .place) row n (k .before .is-within .ensures)
+    (not-false _ (c .before .before .if2 .left)) (fits-as (a .«record» .now) (a .place) row n (k .before .is-allowed .ensures)
     (not-false _ (c .before .if3 .left))) n (whole-as (a .«record» .now) (a .place) (omega arith) n (k .left-from .ensures)
     (not-false _ (c .if4 .left))))
 

@@ -1,6 +1,6 @@
 -- What a write tells, beside its state. Assumes nothing.
 use mathlib.Core.Path.{_∙_, ap}
-use Rattle.stream.specs.State.{Said, Answer}
+use Rattle.stream.specs.State.{Said, AfterWrite}
 use borrow.Author.Needs.{needs}
 use Rattle.tulgranie.proofs.streams.written.Statement.{statement}
 use Rattle.tulgranie.proofs.streams.written.Tie as tie

@@ -1,4 +1,4 @@
--- The test that led to each answer is the test of `readOf`. Assumes nothing.
+-- The test that led to each answer is the test of `wordOf`. Assumes nothing.
 use denote.Ref.{now}
 use Rattle.rapidhash.proofs.ReadLaws.{read-fits, read-found, read-past}
 use borrow.Author.Needs.{needs}
