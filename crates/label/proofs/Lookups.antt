@@ -1,8 +1,9 @@
 -- The number and the values tell answers apart: each answer can be told back from them. Assumes nothing.
 use Prim.Native.Nat.{ℕ}
-use mathlib.Core.Path.{_≡_, refl, sym, _∙_, ap}
+use mathlib.Core.Path.{_≡_, refl}
 use lib.Dec.{eqb}
 use Rattle.secrets.specs.Choice.{pick}
+use Rattle.secrets.proofs.Demand1.{told-back}
 use Rattle.label.specs.Numbers.{Told, toldRefusal, toldLookup, toldReading, toldPrinted}
 use Rattle.label.specs.declared.field.Why.{Why}
 use Rattle.label.specs.declared.field.Why.the-variants.{TooLong, Cut, NoSuchTag, NotAbove, BadLength, Missing, NotListed}
@@ -13,10 +14,6 @@ use Rattle.label.specs.declared.reading.Reading.{Reading}
 use Rattle.label.specs.declared.reading.Reading.the-variants.{Good, Refused as Bad}
 use Rattle.label.specs.declared.fingerprint.Printed.{Printed}
 use Rattle.label.specs.declared.fingerprint.Printed.the-variants.{Print, Refused as NoPrint}
-
--- what can be told back from what it tells is one answer
-pub told-apart : {A : Type 0} (told : A → Told) (back : Told → A) → ((x : A) → back (told x) ≡ x) → (x y : A) → told x ≡ told y → x ≡ y
-told-apart told back is x y e = sym (is x) ∙ ap back e ∙ is y
 
 -- the refusal of a number
 whyOf : ℕ → Why
@@ -50,7 +47,7 @@ lookup-back (At f) = refl
 lookup-back (Refused r) = refusal-back fieldOf Refused (r .why) (r .place)
 
 pub lookup-apart : (x y : Lookup) → toldLookup x ≡ toldLookup y → x ≡ y
-lookup-apart = told-apart toldLookup (unlessRefused fieldOf Refused) lookup-back
+lookup-apart = told-back toldLookup (unlessRefused fieldOf Refused) lookup-back
 
 -- the same of a reading and of a fingerprint
 reading-back : (x : Reading) → unlessRefused (λ t. Good) Bad (toldReading x) ≡ x
@@ -59,7 +56,7 @@ reading-back Good = refl
 reading-back (Bad r) = refusal-back (λ t. Good) Bad (r .why) (r .place)
 
 pub reading-apart : (x y : Reading) → toldReading x ≡ toldReading y → x ≡ y
-reading-apart = told-apart toldReading (unlessRefused (λ t. Good) Bad) reading-back
+reading-apart = told-back toldReading (unlessRefused (λ t. Good) Bad) reading-back
 
 printed-back : (x : Printed) → unlessRefused (λ t. Print (t .fingerprint)) NoPrint (toldPrinted x) ≡ x
 unfolding unlessRefused
@@ -67,4 +64,4 @@ printed-back (Print v) = refl
 printed-back (NoPrint r) = refusal-back (λ t. Print (t .fingerprint)) NoPrint (r .why) (r .place)
 
 pub printed-apart : (x y : Printed) → toldPrinted x ≡ toldPrinted y → x ≡ y
-printed-apart = told-apart toldPrinted (unlessRefused (λ t. Print (t .fingerprint)) NoPrint) printed-back
+printed-apart = told-back toldPrinted (unlessRefused (λ t. Print (t .fingerprint)) NoPrint) printed-back

@@ -1,5 +1,5 @@
 -- Demand 1, for the words and the hashes: no contract leaves a choice, as in the crate below. Assumes nothing.
-use Rattle.secrets.proofs.Demand1.{OneAnswer, one, told-apart}
+use Rattle.secrets.proofs.Demand1.{OneAnswer, one, found-apart}
 use Rattle.rapidhash.proofs.util.read.read_u64.Reads as read-u64
 use Rattle.rapidhash.proofs.util.read.read_u32.Reads as read-u32
 use Rattle.rapidhash.proofs.util.read.all_zero.Reads as all-zero
@@ -15,10 +15,10 @@ use Rattle.rapidhash.proofs.v3.rapid_const.tail_steps.Reads as tail-ste
 use Rattle.rapidhash.proofs.v3.rapid_const.last_step.Reads as last-step
 
 pub read-u64-one : OneAnswer read-u64.Post
-read-u64-one κ a r₁ r₂ s p q = told-apart r₁ r₂ (one p q)
+read-u64-one κ a r₁ r₂ s p q = found-apart r₁ r₂ (one p q)
 
 pub read-u32-one : OneAnswer read-u32.Post
-read-u32-one κ a r₁ r₂ s p q = told-apart r₁ r₂ (one p q)
+read-u32-one κ a r₁ r₂ s p q = found-apart r₁ r₂ (one p q)
 
 pub rapidhash-v3-one : OneAnswer rapidhash-v3.Post
 rapidhash-v3-one κ a r₁ r₂ s p q = one p q

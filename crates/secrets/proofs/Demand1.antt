@@ -1,8 +1,8 @@
 -- Demand 1, for the folded multiply and the secrets: no contract leaves a choice. Two answers that one contract allows for the same
 -- input are equal. (That every call takes any input and ends is what the verdict says of a function without a `requires`.) Assumes nothing.
-use Prim.Native.Nat.{ℕ}
 use mathlib.Core.Path.{_≡_, refl, _∙_, ap, sym}
-use native.Mathlib.Omega.{arith}
+use lib.Dec.{eqb}
+use Rattle.secrets.specs.Choice.{pick}
 use Rattle.secrets.specs.Numbers.{Returned, returned}
 use Rattle.secrets.specs.declared.util.found.Found.{Found}
 use Rattle.secrets.specs.declared.util.found.Found.the-variants.{Value, PastEnd}
@@ -22,12 +22,21 @@ OneAnswer {K} {A} {R} {S} P = (κ : K) (a : A κ) (r₁ r₂ : R κ) (s : S κ) 
 pub one : {A : Type 0} {x y z : A} → x ≡ z → y ≡ z → x ≡ y
 one p q = p ∙ sym q
 
--- number and value tell the cases of a look-up apart
-pub told-apart : (x y : Found) → returned x ≡ returned y → x ≡ y
-told-apart (Value v) (Value w) e = ap Value (ap (λ (x : Returned). x .value) e)
-told-apart (Value v) PastEnd e = let n : _≡_ {A = ℕ} 0 3 = ap (λ (x : Returned). x .number) e in absurd (omega arith)
-told-apart PastEnd (Value w) e = let n : _≡_ {A = ℕ} 3 0 = ap (λ (x : Returned). x .number) e in absurd (omega arith)
-told-apart PastEnd PastEnd e = refl
+-- the law for every contract that is an equation of what the answer tells: what can be told back from it is one answer
+pub told-back : {A B : Type 0} (told : A → B) (back : B → A) → ((x : A) → back (told x) ≡ x) → (x y : A) → told x ≡ told y → x ≡ y
+told-back told back is x y e = sym (is x) ∙ ap back e ∙ is y
+
+-- a look-up is told back from its number and value
+found : Returned → Found
+found r = pick (eqb (r .number) 0) (Value (r .value)) PastEnd
+
+found-back : (x : Found) → found (returned x) ≡ x
+unfolding found
+found-back (Value v) = refl
+found-back PastEnd = refl
+
+pub found-apart : (x y : Found) → returned x ≡ returned y → x ≡ y
+found-apart = told-back returned found found-back
 
 pub rapid-mum-one : OneAnswer rapid-mum.Post
 rapid-mum-one κ a r₁ r₂ s p q = one p q
@@ -48,4 +57,4 @@ pub default-secrets-one : OneAnswer default-secrets.Post
 default-secrets-one κ a r₁ r₂ s p q = one p q
 
 pub secret-one : OneAnswer secret.Post
-secret-one κ a r₁ r₂ s p q = told-apart r₁ r₂ (one p q)
+secret-one κ a r₁ r₂ s p q = found-apart r₁ r₂ (one p q)

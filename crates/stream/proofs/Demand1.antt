@@ -1,10 +1,10 @@
 -- Demand 1 for the stream: no contract leaves a choice. Two answers that one contract allows for the same state and bytes are equal.
 -- Assumes nothing.
-use Prim.Native.Nat.{ℕ}
-use mathlib.Core.Path.{_≡_, refl, _∙_, ap}
-use native.Mathlib.Omega.{arith}
-use Rattle.secrets.proofs.Demand1.{OneAnswer, one}
-use Rattle.stream.specs.State.{Said, said, AfterWrite, answered, Ended, ended}
+use mathlib.Core.Path.{_≡_, refl, ap}
+use lib.Dec.{eqb}
+use Rattle.secrets.specs.Choice.{pick}
+use Rattle.secrets.proofs.Demand1.{OneAnswer, one, told-back}
+use Rattle.stream.specs.State.{Said, said, answered, Ended, ended}
 use Rattle.stream.specs.declared.rapid_stream_hasher.RapidStreamHasher.{RapidStreamHasher}
 use Rattle.stream.specs.declared.rapid_stream_hasher.Outcome.{Outcome}
 use Rattle.stream.specs.declared.rapid_stream_hasher.Outcome.the-variants.{Took, NotSound, TooLong}
@@ -16,41 +16,34 @@ use Rattle.stream.proofs.rapid_stream_hasher.RapidStreamHasher.write.Re
 use Rattle.stream.proofs.rapid_stream_hasher.RapidStreamHasher.finish.Reads as finish
 use Rattle.stream.proofs.rapid_stream_hasher.RapidStreamHasher.reset.Reads as reset
 
--- two numbers that differ are not said of one outcome
-numbers : {A : Type 0} (m n : ℕ) → (m ≡ n → ⊥) → m ≡ n → A
-numbers m n h e = absurd (h e)
+-- an outcome is told back from its number and room
+outcome : Said → Outcome
+outcome s = pick (eqb (s .number) 0) Took (pick (eqb (s .number) 1) NotSound (TooLong (s .room)))
 
--- the number and the room tell the outcomes apart
-pub told-apart : (x y : Outcome) → said x ≡ said y → x ≡ y
-told-apart Took Took e = refl
-told-apart Took NotSound e = numbers 0 1 (λ k. omega arith) (ap (λ (s : Said). s .number) e)
-told-apart Took (TooLong r) e = numbers 0 2 (λ k. omega arith) (ap (λ (s : Said). s .number) e)
-told-apart NotSound Took e = numbers 1 0 (λ k. omega arith) (ap (λ (s : Said). s .number) e)
-told-apart NotSound NotSound e = refl
-told-apart NotSound (TooLong r) e = numbers 1 2 (λ k. omega arith) (ap (λ (s : Said). s .number) e)
-told-apart (TooLong r) Took e = numbers 2 0 (λ k. omega arith) (ap (λ (s : Said). s .number) e)
-told-apart (TooLong r) NotSound e = numbers 2 1 (λ k. omega arith) (ap (λ (s : Said). s .number) e)
-told-apart (TooLong r) (TooLong q) e = ap TooLong (ap (λ (s : Said). s .room) e)
+outcome-back : (x : Outcome) → outcome (said x) ≡ x
+unfolding outcome
+outcome-back Took = refl
+outcome-back NotSound = refl
+outcome-back (TooLong r) = refl
 
--- and the number, the hash and the count what finish ends in
-pub ended-apart : (x y : Finished) → ended x ≡ ended y → x ≡ y
-ended-apart (Hash v k) (Hash w l) e =
-    let a : v ≡ w = ap (λ (s : Ended). s .hash) e in
-    let b : k ≡ l = ap (λ (s : Ended). s .count) e in
-    rw (a, b)
-ended-apart (Hash v k) Unsound e = numbers 0 1 (λ k. omega arith) (ap (λ (s : Ended). s .number) e)
-ended-apart Unsound (Hash w l) e = numbers 1 0 (λ k. omega arith) (ap (λ (s : Ended). s .number) e)
-ended-apart Unsound Unsound e = refl
-
--- the state and the outcome are all of a write's answer
+-- a write's answer from the state and what is said
 abbrev pub written : RapidStreamHasher → Outcome → Written
 written s o = record { state = s; outcome = o }
 
 pub written-apart : (x y : Written) → answered x ≡ answered y → x ≡ y
-written-apart x y e =
-    let a : x .state ≡ y .state = ap (λ (s : AfterWrite). s .state) e in
-    let b : x .outcome ≡ y .outcome = told-apart (x .outcome) (y .outcome) (ap (λ (s : AfterWrite). s .says) e) in
-    ap (λ (s : RapidStreamHasher). written s (x .outcome)) a ∙ ap (λ (o : Outcome). written (y .state) o) b
+written-apart = told-back answered (λ a. written (a .state) (outcome (a .says))) (λ w. ap (written (w .state)) (outcome-back (w .outcome)))
+
+-- and what finish finds from the number, the hash and the count
+finished : Ended → Finished
+finished e = pick (eqb (e .number) 0) (Hash (e .hash) (e .count)) Unsound
+
+finished-back : (x : Finished) → finished (ended x) ≡ x
+unfolding finished
+finished-back (Hash v k) = refl
+finished-back Unsound = refl
+
+pub ended-apart : (x y : Finished) → ended x ≡ ended y → x ≡ y
+ended-apart = told-back ended finished finished-back
 
 pub new-one : OneAnswer new.Post
 new-one κ a r₁ r₂ s p q = one p q
