@@ -3,7 +3,7 @@ use Prim.Native.Nat.{ℕ}
 use mathlib.Core.Path.{_≡_, refl, sym, _∙_, ap, subst}
 use mathlib.Core.Bool.{Bool, true, false}
 use mathlib.Core.List.{List, [], _∷_, _++_}
-use Rattle.label.specs.Label.{walkOf, notListed, withTag, isField, readOf, firstListed, foundIn, findOf}
+use Rattle.label.specs.Label.{walkOf, notListed, withTag, isField, readOf, firstListed, whenGood, findOf}
 use Rattle.label.specs.Rows.{Reads, NoneListed, empty, absent, Finds, badRecord, noneThere, found}
 use Rattle.label.specs.declared.field.Refusal.{Refusal}
 use Rattle.label.specs.declared.field.Field.{Field}
@@ -49,7 +49,7 @@ module _ (fs : List Field) where
 module _ (s tags : List ℕ) where
   -- what the rows say is what finding answers
   rows-find : {l : Lookup} → Finds s tags l → findOf s tags ≡ l
-  unfolding findOf foundIn
+  unfolding findOf whenGood
   rows-find (badRecord {r} h) = rw (exactly s (Bad r) .0 h)
   rows-find (noneThere h n) = rw (exactly s Good .0 h) (none-first (walkOf s .fields) n)
   rows-find (found earlier t later h e n w) =

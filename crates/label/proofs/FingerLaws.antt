@@ -7,15 +7,12 @@ use native.Mathlib.Omega.{arith}
 use native.Mathlib.Decide.{decLe}
 use lib.ListN.{length, take, drop, length-take, length-drop, length-append}
 use Rattle.rapidhash.specs.Hash.{chunks, hashOf}
-use Rattle.label.specs.Numbers.{Told, toldReading, toldPrinted}
-use Rattle.label.specs.Label.{badAt, walkOf, withTag, readOf, valueOf, hashedOf, printOf, fingerprintOf}
-use Rattle.label.specs.declared.field.Refusal.{Refusal}
+use Rattle.label.specs.Numbers.{Told, toldReading}
+use Rattle.label.specs.Label.{badAt, walkOf, withTag, readOf, valueOf, hashedOf}
 use Rattle.label.specs.declared.field.Lookup.{Lookup}
 use Rattle.label.specs.declared.reading.Reading.{Reading}
-use Rattle.label.specs.declared.reading.Reading.the-variants.{Good, Refused as Bad}
-use Rattle.label.specs.declared.fingerprint.Printed.the-variants.{Print, Refused as NoPrint}
+use Rattle.label.specs.declared.reading.Reading.the-variants.{Good}
 use Rattle.label.specs.declared.field.Why.the-variants.{TooLong}
-use Rattle.label.proofs.Lookups.{reading-apart}
 use Rattle.label.proofs.ReadingLaws.{read-too-long}
 use Rattle.secrets.specs.declared.v3.seed.RapidSecrets.{RapidSecrets}
 use Rattle.stream.specs.State.{most, AfterWrite, answered, openingOf, writeOf, finishOf, Ended, ended}
@@ -89,16 +86,6 @@ module _ (s : List ℕ) (x : RapidSecrets) (short : length s ≤ 8192) where
     never-unsound e =
         let n : _≡_ {A = ℕ} 1 0 = ap (λ (d : Ended). d .number) (ap ended (sym e) ∙ hashed) in
         absurd (omega arith)
-
--- the fingerprint, where the reading is good or not
-module _ (s : List ℕ) (x : RapidSecrets) {reading : Reading} (read : toldReading reading ≡ toldReading (readOf s)) where
-  pub print-good : {v : ℕ} → reading ≡ Good → v ≡ hashOf 7 true false x (hashedOf s) → toldPrinted (Print v) ≡ toldPrinted (fingerprintOf x s)
-  unfolding fingerprintOf printOf
-  print-good e h = rw (sym (reading-apart reading (readOf s) read) ∙ e, h)
-
-  pub print-refused : {r : Refusal} → reading ≡ Bad r → toldPrinted (NoPrint r) ≡ toldPrinted (fingerprintOf x s)
-  unfolding fingerprintOf printOf
-  print-refused e = rw (sym (reading-apart reading (readOf s) read) ∙ e)
 
 -- a good record is not too long
 pub good-short : (s : List ℕ) {reading : Reading} → toldReading reading ≡ toldReading (readOf s) → reading ≡ Good → length s ≤ 8192

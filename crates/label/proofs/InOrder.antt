@@ -9,7 +9,7 @@ use native.Mathlib.Decide.{decLe, ℕ-discrete}
 use borrow.Author.Tests.{le-leb, lt-leb, eq-eqb, ne-eqb}
 use Rattle.rapidhash.specs.Hash.{hashOf}
 use Rattle.secrets.specs.declared.v3.seed.RapidSecrets.{RapidSecrets}
-use Rattle.label.specs.Label.{walkOf, withTag, valueOf, hashedOf, printOf, fingerprintOf}
+use Rattle.label.specs.Label.{walkOf, withTag, valueOf, hashedOf, whenGood, fingerprintOf}
 use Rattle.label.specs.Good.{Plain, Ascending, none, above, GoodRecord, plain, valuesTo}
 use Rattle.label.specs.declared.field.Field.{Field}
 use Rattle.label.specs.declared.fingerprint.Printed.the-variants.{Print}
@@ -52,5 +52,5 @@ hashed-in-order s ps g =
 -- and its fingerprint is their hash
 pub print-in-order : (x : RapidSecrets) (s : List ℕ) (ps : List Plain) → GoodRecord s ps
     → fingerprintOf x s ≡ Print (hashOf 7 true false x (valuesTo 4 ps))
-unfolding fingerprintOf printOf
+unfolding fingerprintOf whenGood
 print-in-order x s ps g = rw (good-is-read s ps g .0, hashed-in-order s ps g)

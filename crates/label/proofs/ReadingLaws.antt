@@ -6,7 +6,8 @@ use mathlib.Core.List.{List, [], _∷_}
 use lib.ListN.{length}
 use borrow.Author.Tests.{le-leb, lt-leb}
 use Rattle.secrets.specs.Choice.{every}
-use Rattle.label.specs.Label.{badAt, walkOf, withTag, isField, isGood, complete, readOf}
+use Rattle.label.specs.Numbers.{toldReading}
+use Rattle.label.specs.Label.{badAt, walkOf, withTag, isField, isGood, complete, readOf, whenGood}
 use Rattle.label.specs.declared.field.Why.the-variants.{TooLong, Missing}
 use Rattle.label.specs.declared.field.Refusal.{Refusal}
 use Rattle.label.specs.declared.field.Field.{Field}
@@ -14,6 +15,7 @@ use Rattle.label.specs.declared.field.Lookup.{Lookup}
 use Rattle.label.specs.declared.field.Lookup.the-variants.{At, Refused}
 use Rattle.label.specs.declared.reading.Reading.{Reading}
 use Rattle.label.specs.declared.reading.Reading.the-variants.{Good, Refused as Bad}
+use Rattle.label.proofs.Lookups.{reading-apart}
 
 -- whether a field is there, from the look itself
 pub is-there : {l m : Lookup} {f : Field} → l ≡ m → l ≡ At f → true ≡ isField m
@@ -54,3 +56,13 @@ as-second fs {b} o t = rw o (go b t)
     go : (b : Bool) → isField (withTag 2 fs) ≡ b → every (isField (withTag 2 fs) ∷ []) ≡ b
     go true e = rw e
     go false e = rw e
+
+-- what comes of a record goes by what its reading told
+module _ {A : Type 0} (refused : Refusal → A) (a : A) (s : List ℕ) {reading : Reading} (read : toldReading reading ≡ toldReading (readOf s)) where
+  pub when-good : {x : A} → reading ≡ Good → x ≡ a → x ≡ whenGood (readOf s) a refused
+  unfolding whenGood
+  when-good e h = rw (sym (reading-apart reading (readOf s) read) ∙ e) h
+
+  pub when-refused : {r : Refusal} → reading ≡ Bad r → refused r ≡ whenGood (readOf s) a refused
+  unfolding whenGood
+  when-refused e = rw (sym (reading-apart reading (readOf s) read) ∙ e)

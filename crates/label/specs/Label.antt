@@ -44,13 +44,15 @@ table t =
 abbrev pub refusedAt : Why → ℕ → Lookup
 refusedAt why place = Refused (record { why = why; place = place })
 
--- the tag, the length and the table's row of a header at a place
+-- the tag of a header at a place
 abbrev pub tagAt : List ℕ → ℕ → ℕ
 tagAt s at = getD s at 0
 
+-- its length, in two bytes
 abbrev pub sizeAt : List ℕ → ℕ → ℕ
 sizeAt s at = word 2 s (at + 1)
 
+-- and the table's row for its tag
 abbrev pub rowAt : List ℕ → ℕ → Lengths
 rowAt s at = table (tagAt s at)
 
@@ -138,19 +140,21 @@ unfoldable pub firstListed : List Field → List ℕ → Lookup
 firstListed fs [] = notListed
 firstListed fs (t ∷ ts) = pick (isField (withTag t fs)) (withTag t fs) (firstListed fs ts)
 
--- finding: the record's own refusal first
-unfoldable pub foundIn : List ℕ → List ℕ → Reading → Lookup
-foundIn s tags Good = firstListed (walkOf s .fields) tags
-foundIn s tags (Bad r) = Refused r
+-- what comes of a good record; of one that is refused, what its refusal comes to
+unfoldable pub whenGood : {A : Type 0} → Reading → A → (Refusal → A) → A
+whenGood Good a refused = a
+whenGood (Bad r) a refused = refused r
 
+-- finding: the record's own refusal first, then the list's order
 unfoldable pub findOf : List ℕ → List ℕ → Lookup
-findOf s tags = foundIn s tags (readOf s)
+findOf s tags = whenGood (readOf s) (firstListed (walkOf s .fields) tags) Refused
 
--- where the value stands that a look gives, and how long it is: nothing where it is refused
+-- where the value stands that a look gives: at the front where it is refused
 abbrev pub startOf : Lookup → ℕ
 startOf (At f) = f .start
 startOf (Refused r) = 0
 
+-- and how long it is: nothing where it is refused
 abbrev pub lengthOf : Lookup → ℕ
 lengthOf (At f) = f .length
 lengthOf (Refused r) = 0
@@ -171,9 +175,5 @@ hashedOf s =
     valueOf s (withTag 1 fs) ++ valueOf s (withTag 2 fs) ++ valueOf s (withTag 3 fs) ++ valueOf s (withTag 4 fs)
 
 -- the fingerprint of a record: their full hash, avalanche on, protected off; or the reading's refusal
-unfoldable pub printOf : RapidSecrets → List ℕ → Reading → Printed
-printOf x s Good = Print (hashOf 7 true false x (hashedOf s))
-printOf x s (Bad r) = NoPrint r
-
 unfoldable pub fingerprintOf : RapidSecrets → List ℕ → Printed
-fingerprintOf x s = printOf x s (readOf s)
+fingerprintOf x s = whenGood (readOf s) (Print (hashOf 7 true false x (hashedOf s))) NoPrint
