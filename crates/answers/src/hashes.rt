@@ -1,5 +1,4 @@
 // Answers about hashes, streams and secrets of messages that a rule makes.
-ghost use mathlib.Core.Path.{_≡_};
 ghost use Prim.Native.Nat.{_≤_};
 ghost use lib.ListN.{length};
 use crate::show::shows_number;
@@ -14,6 +13,7 @@ use rapidhash::v3::lanes::Size;
 use rapidhash::v3::rapid_const::rapidhash_v3_inline;
 use rapidhash::v3::rapid_const::rapidhash_v3_micro_inline;
 use rapidhash::v3::rapid_const::rapidhash_v3_nano_inline;
+use samples::message;
 use secrets::v3::seed::RapidSecrets;
 use stream::rapid_stream_hasher::Finished;
 use stream::rapid_stream_hasher::RapidStreamHasher;
@@ -92,17 +92,4 @@ fn shows_all(secrets: RapidSecrets) {
     for j in 0..7 {
         shows_word(s[j]);
     }
-}
-
-// Bytes in which every place and every length differs, by a rule that the oracle repeats. The `ensures` gives only
-// the length, which lending the array as a slice needs.
-fn message(n: usize) -> [u8; 1000]
-    requires { ⌜ n ≤ 1000 ⌝ }
-    ensures { λ r. ⌜ 1000 ≡ length r ⌝ }
-{
-    let mut bytes = [0u8; 1000];
-    for i in 0..1000 {
-        bytes[i] = ((i * 197 + i / 3 * 59 + i / 7 * 113 + n * 101 + 7) % 256) as u8;
-    }
-    bytes
 }

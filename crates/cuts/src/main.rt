@@ -1,11 +1,11 @@
 // Messages written to a stream whole and cut in every way, one line for each length: the hash, the number of chunks
 // mixed, and how many of the cuts end in both. The file `stdout` beside this folder holds what the Rust's own stream
 // hasher makes of the same cuts, printed by the oracle: oracle/README.md says how.
-ghost use mathlib.Core.Path.{_≡_};
 ghost use Prim.Native.Nat.{_≤_};
 ghost use lib.ListN.{length};
 use libc::STDOUT_FILENO;
 use rapidhash::v3::rapid_const::rapidhash_v3_inline;
+use samples::message;
 use secrets::v3::seed::RapidSecrets;
 use stream::rapid_stream_hasher::Finished;
 use stream::rapid_stream_hasher::Outcome;
@@ -44,19 +44,6 @@ fn line(n: usize)
     let secrets = RapidSecrets::seed(0x0123456789abcdef);
     let fresh = RapidStreamHasher::new(secrets, n % 2 == 0, n % 2 == 1);
     counts(fresh, &bytes[0..n]);
-}
-
-// Bytes in which every place and every length differs, by a rule that the oracle repeats. The `ensures` gives only
-// the length, which lending the array as a slice needs.
-fn message(n: usize) -> [u8; 1000]
-    requires { ⌜ n ≤ 1000 ⌝ }
-    ensures { λ r. ⌜ 1000 ≡ length r ⌝ }
-{
-    let mut bytes = [0u8; 1000];
-    for i in 0..1000 {
-        bytes[i] = ((i * 197 + i / 3 * 59 + i / 7 * 113 + n * 101 + 7) % 256) as u8;
-    }
-    bytes
 }
 
 // One write of the whole message sets what every cut is compared with.

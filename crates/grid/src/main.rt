@@ -1,13 +1,12 @@
 // The three hashes of messages of 0 to 300 bytes with four secrets and every flag, one line for each message and
 // secrets. The file `stdout` beside this folder holds the answers of the Rust, printed by the oracle from the same
 // messages and secrets: oracle/README.md says how.
-ghost use mathlib.Core.Path.{_≡_};
 ghost use Prim.Native.Nat.{_≤_};
-ghost use lib.ListN.{length};
 use libc::STDOUT_FILENO;
 use rapidhash::v3::rapid_const::rapidhash_v3_inline;
 use rapidhash::v3::rapid_const::rapidhash_v3_micro_inline;
 use rapidhash::v3::rapid_const::rapidhash_v3_nano_inline;
+use samples::message;
 use secrets::v3::seed::RapidSecrets;
 
 fn main() {
@@ -34,19 +33,6 @@ fn with_each_secrets(bytes: &[u8]) {
     line(bytes, RapidSecrets::seed(0x0123456789abcdef));
     line(bytes, RapidSecrets::seed_cpp(0xffffffffffffffff));
     line(bytes, nothing.reseed());
-}
-
-// Bytes in which every place and every length differs, by a rule that the oracle repeats. The `ensures` gives only
-// the length, which lending the array as a slice needs.
-fn message(n: usize) -> [u8; 300]
-    requires { ⌜ n ≤ 300 ⌝ }
-    ensures { λ r. ⌜ 300 ≡ length r ⌝ }
-{
-    let mut bytes = [0u8; 300];
-    for i in 0..300 {
-        bytes[i] = ((i * 197 + i / 3 * 59 + i / 7 * 113 + n * 101 + 7) % 256) as u8;
-    }
-    bytes
 }
 
 // Eight hashes of the full size, four of micro, four of nano.
