@@ -1,2 +1,6 @@
 pub mod InPlace
+pub mod ByValue
+pub mod ResetWalk
+pub mod FinishWalk
+pub mod WriteWalk
 pub mod Demand1
