@@ -1,4 +1,5 @@
--- The state that the code keeps of a stream of L lanes, and the four calls on it (docs/RULES.md, sections 5.2 and 5.3); a chunk has 16 L bytes. Assumes nothing.
+-- The state that the code keeps of a stream of L lanes, and the four calls on it (docs/RULES.md, sections 5.2 and 5.3); a chunk has 16 L bytes.
+-- Assumes nothing.
 use Prim.Native.Nat.{ℕ, _+_, _-_, _*_, _^_}
 use mathlib.Core.Bool.{Bool, true}
 use mathlib.Core.List.{List, [], _∷_, _++_}
