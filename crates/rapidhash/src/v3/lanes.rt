@@ -7,6 +7,11 @@ ghost use Rattle.rapidhash.specs.Hash.{lanesOf, mixPair, chunkStep, firs
 use crate::util::read::word8;
 use secrets::util::mix::rapid_mix;
 
+// The chunk of the full hash, as the stream of the Rust names it; its loop takes two a turn.
+const CHUNK_SIZE: usize = 112;
+
+const TWO_CHUNKS: usize = 224;
+
 // Which of the three hashes: 7, 5 or 3 lanes.
 pub enum Size {
     Full,
@@ -60,23 +65,29 @@ fn chunk_by_chunk(
     Mixed { lanes: l, at }
 }
 
-// The loop of the full hash that is not compact: 224 bytes a turn, and at the end a chunk more where one is left.
+// The loop of the full hash that is not compact: two chunks a turn, and at the end one more where one is left.
 fn two_by_two(data: &[u8], secrets: [u64; 7], start: [u64; 7], protected: bool) -> Mixed
     ensures { λ r. ⌜ r ≡ mixedOf 7 protected secrets start (now («data» .entry)) ⌝ }
 {
     let mut l = start;
     let mut at = 0;
-    while 224 < data.len() - at {
-        let half = chunk_step(&data[at..at + 112], secrets, l, 7, protected);
-        let next = chunk_step(&data[at + 112..at + 224], secrets, half, 7, protected);
+    while TWO_CHUNKS < data.len() - at {
+        let half = chunk_step(&data[at..at + CHUNK_SIZE], secrets, l, 7, protected);
+        let next = chunk_step(
+            &data[at + CHUNK_SIZE..at + TWO_CHUNKS],
+            secrets,
+            half,
+            7,
+            protected,
+        );
         l = next;
-        at += 224;
+        at += TWO_CHUNKS;
     }
-    if 112 < data.len() - at {
-        let next = chunk_step(&data[at..at + 112], secrets, l, 7, protected);
+    if CHUNK_SIZE < data.len() - at {
+        let next = chunk_step(&data[at..at + CHUNK_SIZE], secrets, l, 7, protected);
         return Mixed {
             lanes: next,
-            at: at + 112,
+            at: at + CHUNK_SIZE,
         };
     }
     Mixed { lanes: l, at }

@@ -113,12 +113,11 @@ fn ends_by_length(
     let r = n as u64;
     let seed = secrets.seed;
     match n {
-        0 => Ends {
-            a: 0,
-            b: 0,
-            seed,
-            r,
-        },
+        0 => {
+            let a = 0;
+            let b = 0;
+            Ends { a, b, seed, r }
+        }
         1..=3 => {
             let a = wide(data[0]) << 45 | wide(data[n - 1]);
             let b = wide(data[n / 2]);
@@ -127,22 +126,14 @@ fn ends_by_length(
         4..=7 => {
             let a = word4(data, 0);
             let b = word4(data, n - 4);
-            Ends {
-                a,
-                b,
-                seed: seed ^ r,
-                r,
-            }
+            let seed = seed ^ r;
+            Ends { a, b, seed, r }
         }
         8..=16 => {
             let a = word8(data, 0);
             let b = word8(data, n - 8);
-            Ends {
-                a,
-                b,
-                seed: seed ^ r,
-                r,
-            }
+            let seed = seed ^ r;
+            Ends { a, b, seed, r }
         }
         _ => rapidhash_core_cold(data, secrets, size, compact, protected),
     }

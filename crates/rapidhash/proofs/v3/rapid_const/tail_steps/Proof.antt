@@ -1,4 +1,4 @@
--- Each `return` stands after as many steps as the rule takes. Assumes nothing.
+-- Each `return` stands after as many steps as the rule takes. Below, cN is what is known right after step N. Assumes nothing.
 use denote.Ref.{now}
 use Rattle.rapidhash.proofs.Steps.{tail-go, tail-stop, tail-end}
 use borrow.Author.Needs.{needs}
@@ -10,59 +10,79 @@ returns c = tail-stop _ _ 0 _ _ _ (c .if1 .taken)
 
 returns-2 : tie.Need-returns-2
 returns-2 c =
-    let a = c .before .before .before .before .args in
+    let c1 = c .before in
+    let a = c1 .before .before .before .args in
     let s = now (a .left) in
-    tail-go (a .protected) s 0 (a .s2) _ (a .seed) (c .before .before .if1 .left) (c .before .mix-pair .ensures)
+    tail-go (a .protected) s 0 (a .s2) _ (a .seed) (c1 .before .if1 .left) (c1 .mix-pair .ensures)
     (tail-stop _ _ 1 _ _ _ (c .if2 .taken))
 
 returns-3 : tie.Need-returns-3
 returns-3 c =
-    let a = c .before .before .before .before .before .before .args in
+    let c2 = c .before in
+    let c1 = c2 .before .before in
+    let a = c1 .before .before .before .args in
     let s = now (a .left) in
-    tail-go (a .protected) s 0 (a .s2) _ (a .seed) (c .before .before .before .before .if1 .left) (c .before .before .before .mix-pair .ensures)
-    (tail-go (a .protected) s 1 (a .s2) _ (c .before .before .before .mix-pair .result) (c .before .before .if2 .left) (c .before .mix-pair2 .ensures)
+    tail-go (a .protected) s 0 (a .s2) _ (a .seed) (c1 .before .if1 .left) (c1 .mix-pair .ensures)
+    (tail-go (a .protected) s 1 (a .s2) _ (c1 .mix-pair .result) (c2 .before .if2 .left) (c2 .mix-pair2 .ensures)
     (tail-stop _ _ 2 _ _ _ (c .if3 .taken)))
 
 returns-4 : tie.Need-returns-4
 returns-4 c =
-    let a = c .before .before .before .before .before .before .before .before .args in
+    let c3 = c .before in
+    let c2 = c3 .before .before in
+    let c1 = c2 .before .before in
+    let a = c1 .before .before .before .args in
     let s = now (a .left) in
-    tail-go (a .protected) s 0 (a .s2) _ (a .seed) (c .before .before .before .before .before .before .if1 .left) (c .before .before .before .before .before .mix-pair .ensures)
-    (tail-go (a .protected) s 1 (a .s2) _ (c .before .before .before .before .before .mix-pair .result) (c .before .before .before .before .if2 .left) (c .before .before .before .mix-pair2 .ensures)
-    (tail-go (a .protected) s 2 (a .s1) _ (c .before .before .before .mix-pair2 .result) (c .before .before .if3 .left) (c .before .mix-pair3 .ensures)
+    tail-go (a .protected) s 0 (a .s2) _ (a .seed) (c1 .before .if1 .left) (c1 .mix-pair .ensures)
+    (tail-go (a .protected) s 1 (a .s2) _ (c1 .mix-pair .result) (c2 .before .if2 .left) (c2 .mix-pair2 .ensures)
+    (tail-go (a .protected) s 2 (a .s1) _ (c2 .mix-pair2 .result) (c3 .before .if3 .left) (c3 .mix-pair3 .ensures)
     (tail-stop _ _ 3 _ _ _ (c .if4 .taken))))
 
 returns-5 : tie.Need-returns-5
 returns-5 c =
-    let a = c .before .before .before .before .before .before .before .before .before .before .args in
+    let c4 = c .before in
+    let c3 = c4 .before .before in
+    let c2 = c3 .before .before in
+    let c1 = c2 .before .before in
+    let a = c1 .before .before .before .args in
     let s = now (a .left) in
-    tail-go (a .protected) s 0 (a .s2) _ (a .seed) (c .before .before .before .before .before .before .before .before .if1 .left) (c .before .before .before .before .before .before .before .mix-pair .ensures)
-    (tail-go (a .protected) s 1 (a .s2) _ (c .before .before .before .before .before .before .before .mix-pair .result) (c .before .before .before .before .before .before .if2 .left) (c .before .before .before .before .before .mix-pair2 .ensures)
-    (tail-go (a .protected) s 2 (a .s1) _ (c .before .before .before .before .before .mix-pair2 .result) (c .before .before .before .before .if3 .left) (c .before .before .before .mix-pair3 .ensures)
-    (tail-go (a .protected) s 3 (a .s1) _ (c .before .before .before .mix-pair3 .result) (c .before .before .if4 .left) (c .before .mix-pair4 .ensures)
+    tail-go (a .protected) s 0 (a .s2) _ (a .seed) (c1 .before .if1 .left) (c1 .mix-pair .ensures)
+    (tail-go (a .protected) s 1 (a .s2) _ (c1 .mix-pair .result) (c2 .before .if2 .left) (c2 .mix-pair2 .ensures)
+    (tail-go (a .protected) s 2 (a .s1) _ (c2 .mix-pair2 .result) (c3 .before .if3 .left) (c3 .mix-pair3 .ensures)
+    (tail-go (a .protected) s 3 (a .s1) _ (c3 .mix-pair3 .result) (c4 .before .if4 .left) (c4 .mix-pair4 .ensures)
     (tail-stop _ _ 4 _ _ _ (c .if5 .taken)))))
 
 returns-6 : tie.Need-returns-6
 returns-6 c =
-    let a = c .before .before .before .before .before .before .before .before .before .before .before .before .args in
+    let c5 = c .before in
+    let c4 = c5 .before .before in
+    let c3 = c4 .before .before in
+    let c2 = c3 .before .before in
+    let c1 = c2 .before .before in
+    let a = c1 .before .before .before .args in
     let s = now (a .left) in
-    tail-go (a .protected) s 0 (a .s2) _ (a .seed) (c .before .before .before .before .before .before .before .before .before .before .if1 .left) (c .before .before .before .before .before .before .before .before .before .mix-pair .ensures)
-    (tail-go (a .protected) s 1 (a .s2) _ (c .before .before .before .before .before .before .before .before .before .mix-pair .result) (c .before .before .before .before .before .before .before .before .if2 .left) (c .before .before .before .before .before .before .before .mix-pair2 .ensures)
-    (tail-go (a .protected) s 2 (a .s1) _ (c .before .before .before .before .before .before .before .mix-pair2 .result) (c .before .before .before .before .before .before .if3 .left) (c .before .before .before .before .before .mix-pair3 .ensures)
-    (tail-go (a .protected) s 3 (a .s1) _ (c .before .before .before .before .before .mix-pair3 .result) (c .before .before .before .before .if4 .left) (c .before .before .before .mix-pair4 .ensures)
-    (tail-go (a .protected) s 4 (a .s2) _ (c .before .before .before .mix-pair4 .result) (c .before .before .if5 .left) (c .before .mix-pair5 .ensures)
+    tail-go (a .protected) s 0 (a .s2) _ (a .seed) (c1 .before .if1 .left) (c1 .mix-pair .ensures)
+    (tail-go (a .protected) s 1 (a .s2) _ (c1 .mix-pair .result) (c2 .before .if2 .left) (c2 .mix-pair2 .ensures)
+    (tail-go (a .protected) s 2 (a .s1) _ (c2 .mix-pair2 .result) (c3 .before .if3 .left) (c3 .mix-pair3 .ensures)
+    (tail-go (a .protected) s 3 (a .s1) _ (c3 .mix-pair3 .result) (c4 .before .if4 .left) (c4 .mix-pair4 .ensures)
+    (tail-go (a .protected) s 4 (a .s2) _ (c4 .mix-pair4 .result) (c5 .before .if5 .left) (c5 .mix-pair5 .ensures)
     (tail-stop _ _ 5 _ _ _ (c .if6 .taken))))))
 
 returns-7 : tie.Need-returns-7
 returns-7 c =
-    let a = c .before .before .before .before .before .before .before .before .before .before .before .before .before .args in
+    let c5 = c .before .before in
+    let c4 = c5 .before .before in
+    let c3 = c4 .before .before in
+    let c2 = c3 .before .before in
+    let c1 = c2 .before .before in
+    let a = c1 .before .before .before .args in
     let s = now (a .left) in
-    tail-go (a .protected) s 0 (a .s2) _ (a .seed) (c .before .before .before .before .before .before .before .before .before .before .before .if1 .left) (c .before .before .before .before .before .before .before .before .before .before .mix-pair .ensures)
-    (tail-go (a .protected) s 1 (a .s2) _ (c .before .before .before .before .before .before .before .before .before .before .mix-pair .result) (c .before .before .before .before .before .before .before .before .before .if2 .left) (c .before .before .before .before .before .before .before .before .mix-pair2 .ensures)
-    (tail-go (a .protected) s 2 (a .s1) _ (c .before .before .before .before .before .before .before .before .mix-pair2 .result) (c .before .before .before .before .before .before .before .if3 .left) (c .before .before .before .before .before .before .mix-pair3 .ensures)
-    (tail-go (a .protected) s 3 (a .s1) _ (c .before .before .before .before .before .before .mix-pair3 .result) (c .before .before .before .before .before .if4 .left) (c .before .before .before .before .mix-pair4 .ensures)
-    (tail-go (a .protected) s 4 (a .s2) _ (c .before .before .before .before .mix-pair4 .result) (c .before .before .before .if5 .left) (c .before .before .mix-pair5 .ensures)
-    (tail-go (a .protected) s 5 (a .s1) _ (c .before .before .mix-pair5 .result) (c .before .if6 .left) (c .mix-pair6 .ensures)
+    tail-go (a .protected) s 0 (a .s2) _ (a .seed) (c1 .before .if1 .left) (c1 .mix-pair .ensures)
+    (tail-go (a .protected) s 1 (a .s2) _ (c1 .mix-pair .result) (c2 .before .if2 .left) (c2 .mix-pair2 .ensures)
+    (tail-go (a .protected) s 2 (a .s1) _ (c2 .mix-pair2 .result) (c3 .before .if3 .left) (c3 .mix-pair3 .ensures)
+    (tail-go (a .protected) s 3 (a .s1) _ (c3 .mix-pair3 .result) (c4 .before .if4 .left) (c4 .mix-pair4 .ensures)
+    (tail-go (a .protected) s 4 (a .s2) _ (c4 .mix-pair4 .result) (c5 .before .if5 .left) (c5 .mix-pair5 .ensures)
+    (tail-go (a .protected) s 5 (a .s1) _ (c5 .mix-pair5 .result) (c .before .if6 .left) (c .mix-pair6 .ensures)
     (tail-end _ _ 6 _))))))
 
 pub tail-steps-spec : {M : Type 1} → statement M
