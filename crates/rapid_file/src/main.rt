@@ -4,7 +4,8 @@
 ghost use mathlib.Core.Path.{_≡_};
 ghost use mathlib.Core.Bool.{true};
 ghost use Prim.Native.Nat.{_<_, _≤_};
-ghost use lib.ListN.{length};
+ghost use lib.ListN.{length, take};
+ghost use Rattle.rapid_file.specs.Parts.{failedWith, progressOf, Came};
 use libc::STDIN_FILENO;
 use libc::STDOUT_FILENO;
 use secrets::v3::seed::RapidSecrets;
@@ -20,37 +21,41 @@ struct Part {
     failed: bool,
 }
 
-// The stream after a part, and whether more may follow. If not, the answer has been printed.
-struct After {
+// The stream after some parts, whether more may follow, and whether the input has failed.
+struct Progress {
     stream: RapidStreamHasher,
     more: bool,
+    failed: bool,
 }
 
 fn main() {
-    hashes(RapidStreamHasher::new(RapidSecrets::default_secrets(), true, false));
+    says(through_parts(RapidStreamHasher::new(RapidSecrets::default_secrets(), true, false)));
 }
 
 // Part after part to the stream. The room left shrinks with each, so that even an endless input ends: behind the last full
 // part that fits there is room for 8,191 bytes, and the stream refuses more.
-fn hashes(opened: RapidStreamHasher) {
+fn through_parts(opened: RapidStreamHasher) -> Progress
+    ensures { λ r. ⌜ Came opened r ⌝ }
+{
     let mut stream = opened;
     let mut room = u64::MAX;
     while 8192 <= room {
-        let after = with_part(stream, next_part());
-        let more = after.more;
+        let progress = with_part(stream, next_part());
+        let more = progress.more;
         if !more {
-            return;
+            return progress;
         }
-        let next = after.stream;
+        let next = progress.stream;
         stream = next;
         room -= 8192;
     }
-    with_part(stream, next_part());
+    with_part(stream, next_part())
 }
 
-// A failed read, and a part that the stream does not take, end in the fixed line; the last part ends in the hash.
-fn with_part(stream: RapidStreamHasher, part: Part) -> After
+// The stream with a part written to it, unless a read failed or the stream does not take it.
+fn with_part(stream: RapidStreamHasher, part: Part) -> Progress
     requires { ⌜ (8192 ≡ length (part .bytes)) × (part .count ≤ 8192) ⌝ }
+    ensures { λ r. ⌜ r ≡ progressOf stream part ⌝ }
 {
     let bytes = part.bytes;
     let count = part.count;
@@ -62,35 +67,38 @@ fn with_part(stream: RapidStreamHasher, part: Part) -> After
     let outcome = written.outcome;
     let next = written.state;
     match outcome {
-        Outcome::Took => {
-            if !more {
-                says_hash(next);
-            }
-            After { stream: next, more }
-        }
-        _ => failed(next),
+        Outcome::Took => Progress {
+            stream: next,
+            more,
+            failed: false,
+        },
+        Outcome::NotSound => failed(next),
+        Outcome::TooLong(_) => failed(next),
     }
 }
 
-fn failed(stream: RapidStreamHasher) -> After {
-    io::write_all(STDOUT_FILENO, b"read failed\n");
-    After {
+fn failed(stream: RapidStreamHasher) -> Progress
+    ensures { λ r. ⌜ r ≡ failedWith stream ⌝ }
+{
+    Progress {
         stream,
         more: false,
+        failed: true,
     }
 }
 
-fn says_hash(stream: RapidStreamHasher) {
+// The answer: the hash, or the fixed line.
+fn says(progress: Progress) {
+    let stream = progress.stream;
     let finished = stream.finish();
-    match finished {
-        Finished::Hash(hash, _) => {
+    if !progress.failed {
+        if let Finished::Hash(hash, _) = finished {
             io::print_hex(STDOUT_FILENO, hash, 16);
             io::write_all(STDOUT_FILENO, b"\n");
-        }
-        Finished::NotSound => {
-            io::write_all(STDOUT_FILENO, b"read failed\n");
+            return;
         }
     }
+    io::write_all(STDOUT_FILENO, b"read failed\n");
 }
 
 // Reads until the part is full, the input ends or a read fails.
@@ -114,10 +122,11 @@ fn next_part() -> Part
     part
 }
 
-// One read, behind the bytes that are there.
+// One read, behind the bytes that are there, which stay.
 fn with_more(part: Part) -> Part
     requires { ⌜ (8192 ≡ length (part .bytes)) × (part .count < 8192) ⌝ }
-    ensures { λ r. ⌜ (8192 ≡ length (r .bytes)) × (r .count ≤ 8192) × (r .more ≡ true → part .count < r .count) ⌝ }
+    ensures { λ r. ⌜ (8192 ≡ length (r .bytes)) × (r .count ≤ 8192) × (r .more ≡ true → part .count < r .count)
+        × (take (part .count) (r .bytes) ≡ take (part .count) (part .bytes)) ⌝ }
 {
     let mut bytes = part.bytes;
     let count = part.count;
