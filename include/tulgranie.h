@@ -1,9 +1,17 @@
 /* Tulgranie: the portable hash rapidhash V3, its stream, and museums' label records with their fingerprint.
  *
- * Every call takes any input and ends. It keeps no pointer, allocates nothing, prints nothing and has no state of its
- * own, so that threads need no lock. Bytes come as a pointer and a length; with length 0 the pointer may be NULL. They are
- * only read. A stream is the caller's and is changed in place, by one call at a time; its pointer must not be NULL. Other
- * structs are passed and returned whole.
+ * Every call takes any bytes, any numbers and any state, and ends. It keeps no pointer, allocates nothing, prints nothing
+ * and has no state of its own, so that threads need no lock. Bytes are only read. A stream is the caller's and is changed in
+ * place. Other structs are passed and returned whole.
+ *
+ * What is asked of the caller, since C does not see to it:
+ *  - a pointer and a length stand for that many bytes of memory that may be read, at most PTRDIFF_MAX of them; with length 0
+ *    the pointer may be NULL;
+ *  - a pointer to a stream is one to a whole tulgranie_stream at its alignment, which may be read, and for write and reset
+ *    written; never NULL;
+ *  - the bytes that are handed over do not overlap the stream, and nobody else changes either while the call runs;
+ *  - every bool, those inside a stream included, is stored as 0 or 1.
+ * Where one of these is not so, nothing here is promised.
  *
  * Answers carry a number: 0 done, else why not.
  *    1  the stream's state is not sound: nothing was written, or there is no hash
@@ -48,7 +56,10 @@ typedef struct tulgranie_settings {
 } tulgranie_settings;
 
 /* The state of a stream between two calls. It is a plain value: copy it to go on from the same place twice. Only calls of
- * this library should change it; a state that they would not make is refused with number 1. */
+ * this library should change it. A state that is not sound (docs/RULES.md, section 5.2) is refused with number 1. That is no
+ * guard against every change: a sound state that somebody made by hand is gone on from as it stands. In particular A STRUCT
+ * OF ZEROS IS SOUND, the opening with seed 0, all secrets 0 and both flags off: a forgotten tulgranie_stream_open goes
+ * unnoticed and gives other hashes. */
 typedef struct tulgranie_stream {
     tulgranie_settings settings;
     uint64_t lanes[7];

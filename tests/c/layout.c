@@ -45,6 +45,15 @@ int main(void)
     for (size_t i = 0; i < 7; i++) check(tulgranie_secret(s, i).value == 21 + i, "a secret by index");
     check(tulgranie_secret(s, 7).number == 3, "a number beside a value");
 
+    /* a struct of zeros is a sound state, as the header warns: the opening with seed 0, secrets 0 and both flags off */
+    tulgranie_stream zeros;
+    tulgranie_secrets all_zero = {0, {0, 0, 0, 0, 0, 0, 0}};
+    memset(&zeros, 0, sizeof zeros);
+    tulgranie_stream opening = tulgranie_stream_open(all_zero, false, false);
+    check(tulgranie_stream_write(&zeros, (const uint8_t *)"AT", 2).number == 0, "a struct of zeros takes bytes");
+    check(tulgranie_stream_write(&opening, (const uint8_t *)"AT", 2).number == 0, "an opening takes bytes");
+    check(tulgranie_stream_finish(&zeros).hash == tulgranie_stream_finish(&opening).hash, "a struct of zeros is that opening");
+
     /* a state that is not sound comes back as it is, byte for byte, beside its number */
     for (int flags = 0; flags < 4; flags++) {
         tulgranie_stream h;

@@ -21,10 +21,13 @@ pub enum Why {
     Missing,
     /// 11: the record has none of the listed tags.
     NotListed,
+    /// A number that this crate does not know, of a library that is newer than it.
+    Other(u64),
 }
 
 /// A refusal: why, and where in the record.
 #[derive(Clone, Copy, Debug, PartialEq, Eq, Hash)]
+#[non_exhaustive]
 pub struct RecordError {
     /// Why.
     pub why: Why,
@@ -34,6 +37,7 @@ pub struct RecordError {
 
 /// A field of a record.
 #[derive(Clone, Copy, Debug, PartialEq, Eq)]
+#[non_exhaustive]
 pub struct Field<'r> {
     /// Its tag.
     pub tag: u8,
@@ -70,20 +74,27 @@ pub fn fingerprint(record: &[u8], secrets: RapidSecrets) -> Result<u64, RecordEr
 }
 
 fn done(answer: ffi::Answer) -> Result<ffi::Answer, RecordError> {
-    let why = match answer.number {
-        0 => return Ok(answer),
-        5 => Why::TooLong,
-        6 => Why::Cut,
-        7 => Why::NoSuchTag,
-        8 => Why::NotAbove,
-        9 => Why::BadLength,
-        10 => Why::Missing,
-        _ => Why::NotListed,
-    };
-    Err(RecordError { why, place: answer.place as usize })
+    match answer.number {
+        0 => Ok(answer),
+        number => Err(RecordError { why: Why::of(number), place: answer.place as usize }),
+    }
 }
 
 impl Why {
+    /// The refusal that a number stands for; a number that is none of the listed ones stays what it is.
+    fn of(number: u64) -> Self {
+        match number {
+            5 => Why::TooLong,
+            6 => Why::Cut,
+            7 => Why::NoSuchTag,
+            8 => Why::NotAbove,
+            9 => Why::BadLength,
+            10 => Why::Missing,
+            11 => Why::NotListed,
+            other => Why::Other(other),
+        }
+    }
+
     /// The number by which the rules know it.
     pub fn number(self) -> u64 {
         match self {
@@ -94,6 +105,7 @@ impl Why {
             Why::BadLength => 9,
             Why::Missing => 10,
             Why::NotListed => 11,
+            Why::Other(number) => number,
         }
     }
 }
@@ -108,6 +120,7 @@ impl fmt::Display for Why {
             Why::BadLength => "the length is outside the limits of the tag",
             Why::Missing => "the accession number or the title is missing",
             Why::NotListed => "the record has none of the listed tags",
+            Why::Other(_) => "refused for a reason that this version does not know",
         })
     }
 }
@@ -119,3 +132,30 @@ impl fmt::Display for RecordError {
 }
 
 impl Error for RecordError {}
+
+#[cfg(test)]
+mod tests {
+    use super::{done, Why};
+    use crate::ffi::Answer;
+
+    /// What a library with more refusals than this crate knows would answer.
+    fn answer(number: u64) -> Answer {
+        Answer { number, place: 4, tag: 0, start: 0, length: 0, fingerprint: 0 }
+    }
+
+    #[test]
+    fn every_number_comes_back_as_itself() {
+        for number in 1..=300 {
+            let error = done(answer(number)).map(|_| ()).unwrap_err();
+            assert_eq!((error.why.number(), error.place), (number, 4));
+            assert_eq!(error.why == Why::NotListed, number == 11);
+            assert_eq!(matches!(error.why, Why::Other(_)), !(5..=11).contains(&number));
+            assert!(error.to_string().starts_with(&format!("{number} at 4: ")));
+        }
+    }
+
+    #[test]
+    fn zero_is_no_refusal() {
+        assert!(done(answer(0)).is_ok());
+    }
+}

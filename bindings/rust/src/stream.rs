@@ -24,6 +24,7 @@ pub struct NotSound;
 
 /// Why a write took nothing.
 #[derive(Clone, Copy, Debug, PartialEq, Eq)]
+#[non_exhaustive]
 pub enum WriteError {
     /// The state is not sound (number 1).
     NotSound,
@@ -32,6 +33,8 @@ pub enum WriteError {
         /// How many bytes there is room for.
         room: u64,
     },
+    /// A number that this crate does not know, of a library that is newer than it.
+    Other(u64),
 }
 
 impl StreamHasher {
@@ -47,8 +50,9 @@ impl StreamHasher {
         let answer = unsafe { ffi::tulgranie_stream_write(&mut self.state, data.as_ptr(), data.len()) };
         match answer.number {
             0 => Ok(()),
+            1 => Err(WriteError::NotSound),
             2 => Err(WriteError::TooLong { room: answer.room }),
-            _ => Err(WriteError::NotSound),
+            other => Err(WriteError::Other(other)),
         }
     }
 
@@ -100,6 +104,7 @@ impl fmt::Display for WriteError {
         match self {
             WriteError::NotSound => NotSound.fmt(f),
             WriteError::TooLong { room } => write!(f, "2: the stream has room for {room} bytes only"),
+            WriteError::Other(number) => write!(f, "{number}: refused for a reason that this version does not know"),
         }
     }
 }

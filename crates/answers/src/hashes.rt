@@ -19,7 +19,7 @@ use stream::rapid_stream_hasher::Finished;
 use stream::rapid_stream_hasher::RapidStreamHasher;
 
 // KIND FLAGS SEED LENGTH: the hash with the secrets of the seed. The flags are avalanche, compact and protected.
-pub fn shows_hash(line: &[u8], size: Size) {
+pub(crate) fn shows_hash(line: &[u8], size: Size) {
     let flags = word(line, 1);
     let secrets = RapidSecrets::seed(number_of(word(line, 2)));
     let n = length_of(word(line, 3));
@@ -41,7 +41,7 @@ pub fn shows_hash(line: &[u8], size: Size) {
 }
 
 // stream FLAGS SEED LENGTH CUT CUT: the hash and the number of chunks of the message written in three parts.
-pub fn shows_stream(line: &[u8]) {
+pub(crate) fn shows_stream(line: &[u8]) {
     let flags = word(line, 1);
     let secrets = RapidSecrets::seed(number_of(word(line, 2)));
     let n = length_of(word(line, 3));
@@ -77,7 +77,7 @@ fn in_three(
 }
 
 // secrets SEED: the number, and the seed and the seven secrets of `seed`, of `seed_cpp` and of the first one reseeded.
-pub fn shows_secrets(text: &[u8]) {
+pub(crate) fn shows_secrets(text: &[u8]) {
     let seed = number_of(text);
     let made = RapidSecrets::seed(seed);
     io::print_hex(STDOUT_FILENO, seed, 16);

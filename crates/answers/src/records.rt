@@ -21,7 +21,7 @@ use stream::rapid_stream_hasher::Finished;
 use stream::rapid_stream_hasher::RapidStreamHasher;
 
 // Number, place and tag.
-pub fn shows_reading(text: &[u8]) {
+pub(crate) fn shows_reading(text: &[u8]) {
     let bytes = bytes_of(text);
     let held = bytes.held;
     let count = bytes.count;
@@ -33,7 +33,7 @@ pub fn shows_reading(text: &[u8]) {
 }
 
 // Number, tag, place and the value's own bytes.
-pub fn shows_finding(text: &[u8], list: &[u8]) {
+pub(crate) fn shows_finding(text: &[u8], list: &[u8]) {
     let bytes = bytes_of(text);
     let held = bytes.held;
     let count = bytes.count;
@@ -54,7 +54,7 @@ pub fn shows_finding(text: &[u8], list: &[u8]) {
 
 // Number, place, tag, the fingerprint, and at how many of the places where the values can be cut in two the stream ends
 // in that fingerprint too.
-pub fn shows_fingerprint(text: &[u8], secrets: RapidSecrets) {
+pub(crate) fn shows_fingerprint(text: &[u8], secrets: RapidSecrets) {
     let bytes = bytes_of(text);
     let held = bytes.held;
     let count = bytes.count;

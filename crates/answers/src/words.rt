@@ -11,7 +11,7 @@ pub struct Bytes {
 }
 
 // The word with a number, from 0 on; an empty one where the line has no more.
-pub fn word(line: &[u8], number: usize) -> &[u8] {
+pub(crate) fn word(line: &[u8], number: usize) -> &[u8] {
     let mut at = 0;
     for i in 0..number {
         let next = past_word(line, at);
@@ -31,7 +31,7 @@ fn past_word(line: &[u8], at: usize) -> usize
 }
 
 // Two digits make a byte. The word `-` has no byte.
-pub fn bytes_of(text: &[u8]) -> Bytes
+pub(crate) fn bytes_of(text: &[u8]) -> Bytes
     ensures { λ r. ⌜ (8200 ≡ length (r .held)) × (r .count ≤ 8200) ⌝ }
 {
     let mut held = [0u8; 8200];
@@ -61,7 +61,7 @@ fn digit(glyph: u8) -> u8
 }
 
 // The seed and the seven secrets, from the word with a number on.
-pub fn secrets_of(line: &[u8], from: usize) -> RapidSecrets
+pub(crate) fn secrets_of(line: &[u8], from: usize) -> RapidSecrets
     requires { ⌜ from < 100 ⌝ }
 {
     RapidSecrets {
@@ -78,7 +78,7 @@ pub fn secrets_of(line: &[u8], from: usize) -> RapidSecrets
     }
 }
 
-pub fn number_of(text: &[u8]) -> u64 {
+pub(crate) fn number_of(text: &[u8]) -> u64 {
     let mut n = 0;
     for i in 0..text.len() {
         n = n << 4 | digit(text[i]) as u64;
@@ -86,14 +86,14 @@ pub fn number_of(text: &[u8]) -> u64 {
     n
 }
 
-pub fn least(a: usize, b: usize) -> usize
+pub(crate) fn least(a: usize, b: usize) -> usize
     ensures { λ r. ⌜ (r ≤ a) × (r ≤ b) ⌝ }
 {
     if a <= b { a } else { b }
 }
 
 // A decimal number, at most 1,000.
-pub fn length_of(text: &[u8]) -> usize
+pub(crate) fn length_of(text: &[u8]) -> usize
     ensures { λ r. ⌜ r ≤ 1000 ⌝ }
 {
     let mut n = 0;
@@ -104,7 +104,7 @@ pub fn length_of(text: &[u8]) -> usize
 }
 
 // Whether the digit at a place of a word is 1.
-pub fn flag(text: &[u8], at: usize) -> bool {
+pub(crate) fn flag(text: &[u8], at: usize) -> bool {
     if at < text.len() {
         text[at] == b'1'
     } else {

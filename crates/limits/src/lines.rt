@@ -10,7 +10,7 @@ use stream::rapid_stream_hasher::RapidStreamHasher;
 use stream::rapid_stream_hasher::Written;
 
 // A state, and what a write of each size says of it.
-pub fn tried(name: &[u8], h: RapidStreamHasher, sizes: &[u8]) {
+pub(crate) fn tried(name: &[u8], h: RapidStreamHasher, sizes: &[u8]) {
     before(name, h);
     for i in 0..sizes.len() {
         after(name, h, sizes[i]);
@@ -38,7 +38,7 @@ fn after(name: &[u8], h: RapidStreamHasher, n: u8) {
 }
 
 // After a reset every write goes as after an opening, whatever the state was.
-pub fn renewed(name: &[u8], h: RapidStreamHasher) {
+pub(crate) fn renewed(name: &[u8], h: RapidStreamHasher) {
     let next = h.reset();
     named(name, h);
     shows_state(b" reset", next);

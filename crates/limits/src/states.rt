@@ -13,13 +13,13 @@ fn settings(protected: bool) -> Settings {
     }
 }
 
-pub fn opening(protected: bool) -> RapidStreamHasher {
+pub(crate) fn opening(protected: bool) -> RapidStreamHasher {
     let s = settings(protected);
     RapidStreamHasher::new(s.secrets, s.avalanche, s.protected)
 }
 
 // The filling tells the lanes and the first 16 bytes: 0 gives them as at an opening, one near 255 makes all differ.
-pub fn state(count: u64, waiting: usize, fill: u8, protected: bool) -> RapidStreamHasher {
+pub(crate) fn state(count: u64, waiting: usize, fill: u8, protected: bool) -> RapidStreamHasher {
     let s = settings(protected);
     RapidStreamHasher {
         settings: s,
@@ -67,14 +67,14 @@ fn held(i: usize, waiting: usize, fill: u8) -> u8
 }
 
 // None is zero: a byte that is not cleared away makes its state unsound, and so is seen.
-pub fn message_byte(i: usize) -> u8
+pub(crate) fn message_byte(i: usize) -> u8
     requires { ⌜ i < 512 ⌝ }
 {
     ((i * 197 + i / 3 * 59 + 7) % 255 + 1) as u8
 }
 
 // The state with some bits of one lane turned.
-pub fn with_lane(h: RapidStreamHasher, at: usize, bits: u64) -> RapidStreamHasher
+pub(crate) fn with_lane(h: RapidStreamHasher, at: usize, bits: u64) -> RapidStreamHasher
     requires { ⌜ at < 7 ⌝ }
 {
     let mut next = h;
@@ -83,7 +83,7 @@ pub fn with_lane(h: RapidStreamHasher, at: usize, bits: u64) -> RapidStreamHashe
 }
 
 // The state with another byte at one place of the buffer.
-pub fn with_byte(h: RapidStreamHasher, at: usize, byte: u8) -> RapidStreamHasher
+pub(crate) fn with_byte(h: RapidStreamHasher, at: usize, byte: u8) -> RapidStreamHasher
     requires { ⌜ at < 128 ⌝ }
 {
     let mut next = h;
