@@ -6,7 +6,7 @@
 unset CDPATH
 child='' kept=''
 tidy() {
-    [ -z "$child" ] || kill -TERM -- "$child" 2>/dev/null
+    [ -z "$child" ] || kill -s TERM -- "$child" 2>/dev/null
     [ -z "$kept" ] || rm -rf "$kept"
 }
 trap tidy EXIT
