@@ -51,46 +51,46 @@ pub ended-apart : (x y : StreamEnded) → endedOf x ≡ endedOf y → x ≡ y
 ended-apart = told-back endedOf (λ e. record { number = e .number; hash = e .hash; count = e .count }) (λ x. refl)
 
 pub word8-one : OneAnswer word8.Post
-word8-one κ a r₁ r₂ s p q = one p q
+word8-one κ a r₁ r₂ s₁ s₂ p q = one p q
 
 pub word4-one : OneAnswer word4.Post
-word4-one κ a r₁ r₂ s p q = one p q
+word4-one κ a r₁ r₂ s₁ s₂ p q = one p q
 
 pub seed-one : OneAnswer seed.Post
-seed-one κ a r₁ r₂ s p q = one p q
+seed-one κ a r₁ r₂ s₁ s₂ p q = one p q
 
 pub seed-cpp-one : OneAnswer seed-cpp.Post
-seed-cpp-one κ a r₁ r₂ s p q = one p q
+seed-cpp-one κ a r₁ r₂ s₁ s₂ p q = one p q
 
 pub reseed-one : OneAnswer reseed.Post
-reseed-one κ a r₁ r₂ s p q = one p q
+reseed-one κ a r₁ r₂ s₁ s₂ p q = one p q
 
 pub default-secrets-one : OneAnswer default-secrets.Post
-default-secrets-one κ a r₁ r₂ s p q = one p q
+default-secrets-one κ a r₁ r₂ s₁ s₂ p q = one p q
 
 pub secret-one : OneAnswer secret.Post
-secret-one κ a r₁ r₂ s p q = one p q
+secret-one κ a r₁ r₂ s₁ s₂ p q = one p q
 
 pub full-one : OneAnswer full.Post
-full-one κ a r₁ r₂ s p q = one p q
+full-one κ a r₁ r₂ s₁ s₂ p q = one p q
 
 pub micro-one : OneAnswer micro.Post
-micro-one κ a r₁ r₂ s p q = one p q
+micro-one κ a r₁ r₂ s₁ s₂ p q = one p q
 
 pub nano-one : OneAnswer nano.Post
-nano-one κ a r₁ r₂ s p q = one p q
+nano-one κ a r₁ r₂ s₁ s₂ p q = one p q
 
 pub open-one : OneAnswer opened.Post
-open-one κ a r₁ r₂ s p q = one p q
+open-one κ a r₁ r₂ s₁ s₂ p q = one p q
 
 pub read-one : OneAnswer read.Post
-read-one κ a r₁ r₂ s p q = answer-apart r₁ r₂ (one p q)
+read-one κ a r₁ r₂ s₁ s₂ p q = answer-apart r₁ r₂ (one p q)
 
 pub find-one : OneAnswer find.Post
-find-one κ a r₁ r₂ s p q = answer-apart r₁ r₂ (one p q)
+find-one κ a r₁ r₂ s₁ s₂ p q = answer-apart r₁ r₂ (one p q)
 
 pub fingerprint-one : OneAnswer fingerprint.Post
-fingerprint-one κ a r₁ r₂ s p q = answer-apart r₁ r₂ (one p q)
+fingerprint-one κ a r₁ r₂ s₁ s₂ p q = answer-apart r₁ r₂ (one p q)
 
 -- of a lent stream the answer and the state after it are fixed
 module _ {M : Type 1} (𝓤 : URA M) (H : Heap 𝓤) (A : Atoms 𝓤) (mem : Memory → SProp 𝓤) (run : Routine → Fun 𝓤) where
