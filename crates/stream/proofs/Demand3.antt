@@ -16,6 +16,8 @@ use Rattle.stream.specs.declared.rapid_stream_hasher.Settings.{Settings}
 use Rattle.stream.specs.declared.rapid_stream_hasher.RapidStreamHasher.{RapidStreamHasher}
 use Rattle.stream.specs.declared.rapid_stream_hasher.Outcome.the-variants.{Took, NotSound, TooLong}
 use Rattle.stream.specs.declared.rapid_stream_hasher.Finished.the-variants.{Hash}
+use Rattle.stream.proofs.Seven.{lanes, some-lanes}
+use Rattle.stream.proofs.Sound.{most-chunks}
 use Rattle.stream.proofs.Whole.{stream-count, stream-is-message}
 use Rattle.stream.proofs.Good.{total}
 use Rattle.stream.proofs.Hold.{view-hold, sound-hold, good-view, total-view, hold-view}
@@ -137,3 +139,8 @@ module _ (L : ℕ) (pos : 0 < L) (few : L ≤ 7) where
   as-a-list o cs =
       let last : taken L (after L o []) (onList L o [] cs .last) ≡ after L o (onList L o [] cs .last) = taken-after o [] (onList L o [] cs .last) in
       rw (← after-none L o) (from-after o [] cs (omega arith) ∙ rw last)
+
+-- (f) A sound state of the code's size has mixed at most 164703072086692425 chunks, and at most 15 bytes wait where it has mixed as many.
+pub most-chunks-seven : (h : RapidStreamHasher) → sound lanes h ≡ true
+    → (h .count ≤ 164703072086692425) × (h .count ≡ 164703072086692425 → h .waiting ≤ 15)
+most-chunks-seven h = most-chunks lanes h some-lanes
