@@ -1,5 +1,6 @@
 -- What a reader of the stream looks for (demand 3): cuts do not matter, finish is the whole-message hash, sound states stay sound,
--- a refusal changes nothing, and any sequence of calls answers as on a plain list of the accepted bytes. Assumes nothing.
+-- a refusal changes nothing, any sequence of calls answers as on a plain list of the accepted bytes and leads to a sound state, and how many
+-- chunks there are at most. Of the definitions; `OfTheCode` carries it to the code. Assumes nothing.
 use Prim.Native.Nat.{ℕ, _+_, _-_, _*_, _≤_, _<_}
 use mathlib.Core.Path.{_≡_, refl, _∙_, ap, sym}
 use mathlib.Core.Bool.{true, false}

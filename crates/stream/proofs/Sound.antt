@@ -1,4 +1,4 @@
--- The tests of a sound state, each as the fact that it tells. Assumes nothing.
+-- The tests of a sound state, each as the fact that it tells, and the most chunks that they leave room for. Assumes nothing.
 use Prim.Native.Nat.{ℕ, _+_, _*_, _/_, _%_, _≤_, _<_}
 use mathlib.Core.Path.{_≡_, refl}
 use mathlib.Core.Bool.{Bool, true, false}
