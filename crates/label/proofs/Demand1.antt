@@ -14,31 +14,31 @@ use Rattle.label.proofs.finding.part.Reads as part
 use Rattle.label.proofs.fingerprint.fingerprint.Reads as fingerprint
 
 pub header-one : OneAnswer header.Post
-header-one κ a r₁ r₂ s p q = lookup-apart r₁ r₂ (one p q)
+header-one κ a r₁ r₂ s₁ s₂ p q = lookup-apart r₁ r₂ (one p q)
 
 pub lengths-of-one : OneAnswer lengths-of.Post
-lengths-of-one κ a r₁ r₂ s p q = one p q
+lengths-of-one κ a r₁ r₂ s₁ s₂ p q = one p q
 
 pub number-one : OneAnswer number.Post
-number-one κ a r₁ r₂ s p q = one p q
+number-one κ a r₁ r₂ s₁ s₂ p q = one p q
 
 pub read-one : OneAnswer read.Post
-read-one κ a r₁ r₂ s p q = reading-apart r₁ r₂ (one p q)
+read-one κ a r₁ r₂ s₁ s₂ p q = reading-apart r₁ r₂ (one p q)
 
 pub find-one : OneAnswer find.Post
-find-one κ a r₁ r₂ s p q = lookup-apart r₁ r₂ (one p q)
+find-one κ a r₁ r₂ s₁ s₂ p q = lookup-apart r₁ r₂ (one p q)
 
 pub fingerprint-one : OneAnswer fingerprint.Post
-fingerprint-one κ a r₁ r₂ s p q = printed-apart r₁ r₂ (one p q)
+fingerprint-one κ a r₁ r₂ s₁ s₂ p q = printed-apart r₁ r₂ (one p q)
 
--- what is seen of the answers that a contract allows is one
+-- what is seen of the answers that a contract allows is one, also where two come with two exits
 abbrev Seen : {K : Type 0} {A S : K → Type 0} {X : Type 0} → (RefT (List ℕ) → X) → ((κ : K) → A κ → RefT (List ℕ) → S κ → Type 0) → Type 0
-Seen {K} {A} {S} see P = (κ : K) (a : A κ) (r₁ r₂ : RefT (List ℕ)) (s : S κ) → P κ a r₁ s → P κ a r₂ s → see r₁ ≡ see r₂
+Seen {K} {A} {S} see P = (κ : K) (a : A κ) (r₁ r₂ : RefT (List ℕ)) (s₁ s₂ : S κ) → P κ a r₁ s₁ → P κ a r₂ s₂ → see r₁ ≡ see r₂
 
 -- a part that is handed back: the same bytes, and the same place. A reference has besides a name by which a proof follows it, and which no
 -- program sees; the contract leaves it open
 pub part-bytes-one : Seen now part.Post
-part-bytes-one κ a r₁ r₂ s p q = one (p .bytes) (q .bytes)
+part-bytes-one κ a r₁ r₂ s₁ s₂ p q = one (p .bytes) (q .bytes)
 
 pub part-place-one : Seen ptr part.Post
-part-place-one κ a r₁ r₂ s p q = one (p .memory) (q .memory)
+part-place-one κ a r₁ r₂ s₁ s₂ p q = one (p .memory) (q .memory)

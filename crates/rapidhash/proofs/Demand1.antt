@@ -15,40 +15,40 @@ use Rattle.rapidhash.proofs.v3.rapid_const.tail_steps.Reads as tail-ste
 use Rattle.rapidhash.proofs.v3.rapid_const.last_step.Reads as last-step
 
 pub read-u64-one : OneAnswer read-u64.Post
-read-u64-one κ a r₁ r₂ s p q = found-apart r₁ r₂ (one p q)
+read-u64-one κ a r₁ r₂ s₁ s₂ p q = found-apart r₁ r₂ (one p q)
 
 pub read-u32-one : OneAnswer read-u32.Post
-read-u32-one κ a r₁ r₂ s p q = found-apart r₁ r₂ (one p q)
+read-u32-one κ a r₁ r₂ s₁ s₂ p q = found-apart r₁ r₂ (one p q)
 
 pub rapidhash-v3-one : OneAnswer rapidhash-v3.Post
-rapidhash-v3-one κ a r₁ r₂ s p q = one p q
+rapidhash-v3-one κ a r₁ r₂ s₁ s₂ p q = one p q
 
 pub rapidhash-v3-seeded-one : OneAnswer rapidhash-v3-seeded.Post
-rapidhash-v3-seeded-one κ a r₁ r₂ s p q = one p q
+rapidhash-v3-seeded-one κ a r₁ r₂ s₁ s₂ p q = one p q
 
 pub rapidhash-v3-inline-one : OneAnswer rapidhash-v3-inline.Post
-rapidhash-v3-inline-one κ a r₁ r₂ s p q = one p q
+rapidhash-v3-inline-one κ a r₁ r₂ s₁ s₂ p q = one p q
 
 pub rapidhash-v3-micro-inline-one : OneAnswer rapidhash-v3-micro-inline.Post
-rapidhash-v3-micro-inline-one κ a r₁ r₂ s p q = one p q
+rapidhash-v3-micro-inline-one κ a r₁ r₂ s₁ s₂ p q = one p q
 
 pub rapidhash-v3-nano-inline-one : OneAnswer rapidhash-v3-nano-inline.Post
-rapidhash-v3-nano-inline-one κ a r₁ r₂ s p q = one p q
+rapidhash-v3-nano-inline-one κ a r₁ r₂ s₁ s₂ p q = one p q
 
 pub mix-chunks-one : OneAnswer mix-chunks.Post
-mix-chunks-one κ a r₁ r₂ s p q = one p q
+mix-chunks-one κ a r₁ r₂ s₁ s₂ p q = one p q
 
 pub join-one : OneAnswer join.Post
-join-one κ a r₁ r₂ s p q = one p q
+join-one κ a r₁ r₂ s₁ s₂ p q = one p q
 
 pub tail-steps-one : OneAnswer tail-steps.Post
-tail-steps-one κ a r₁ r₂ s p q = one p q
+tail-steps-one κ a r₁ r₂ s₁ s₂ p q = one p q
 
 pub last-step-one : OneAnswer last-step.Post
-last-step-one κ a r₁ r₂ s p q = one p q
+last-step-one κ a r₁ r₂ s₁ s₂ p q = one p q
 
 pub all-zero-one : OneAnswer all-zero.Post
-all-zero-one κ a r₁ r₂ s p q = one p q
+all-zero-one κ a r₁ r₂ s₁ s₂ p q = one p q
 
 pub mix-first-one : OneAnswer mix-first.Post
-mix-first-one κ a r₁ r₂ s p q = one p q
+mix-first-one κ a r₁ r₂ s₁ s₂ p q = one p q

@@ -3,4 +3,4 @@ use Rattle.secrets.proofs.Demand1.{OneAnswer, one}
 use Rattle.samples.proofs.message.Reads as message
 
 pub message-one : OneAnswer message.Post
-message-one κ a r₁ r₂ s p q = one p q
+message-one κ a r₁ r₂ s₁ s₂ p q = one p q

@@ -70,7 +70,12 @@ module _ {x : Mixed} (p : Bool) (sec l s : List ℕ) (e : x ≡ mixedOf lanes p 
     where
       held : x .lanes ≡ lanesAfter lanes p sec (chunks width (length s)) l s → k + x .at / width ≡ k + chunks width (length s)
           → length s - x .at ≡ length (drop (x .at) s) → b ≡ a ++ drop (x .at) s ++ replicate (width - length (drop (x .at) s)) 0 → a ≡ slide prev (take (x .at) s)
-          → hold o (record { lanes = lanesAfter lanes p sec (chunks width (length s)) l s; count = k + chunks width (length s); prev = slide prev (take (width * chunks width (length s)) s); rest = drop (width * chunks width (length s)) s })
+          → hold o (record {
+            lanes = lanesAfter lanes p sec (chunks width (length s)) l s;
+            count = k + chunks width (length s);
+            prev = slide prev (take (width * chunks width (length s)) s);
+            rest = drop (width * chunks width (length s)) s;
+          })
           ≡ record { settings = o; lanes = x .lanes; count = k + x .at / width; waiting = length s - x .at; buffer = b }
       held h₁ h₂ h₃ h₄ h₅ = rw (← at-is, ← h₁, ← h₂, ← h₅, ← h₄, ← h₃)
 

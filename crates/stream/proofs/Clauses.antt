@@ -14,7 +14,7 @@ use Rattle.rapidhash.proofs.Tests.{same-leb}
 use Rattle.stream.proofs.Sound.{both}
 use Rattle.stream.specs.State.{sofar, most, sound}
 use Rattle.stream.specs.declared.rapid_stream_hasher.RapidStreamHasher.{RapidStreamHasher}
-use Rattle.stream.proofs.Seven.{lanes, width}
+use Rattle.stream.proofs.Seven.{lanes, width, mostChunks}
 
 -- nothing is chosen between false and false
 no-choice : (t : Bool) → pick t false false ≡ false
@@ -96,10 +96,10 @@ module _ (k m : ℕ) where
   pub sized-wide : width < m → false ≡ pick (leb m width) (leb (width * k + m) most) false
   sized-wide h = rw (lt-leb m width h)
 
-  -- more bytes than a stream may have
-  pub sized-many : most < width * k + m → false ≡ pick (leb m width) (leb (width * k + m) most) false
-  sized-many h = rw (lt-leb (width * k + m) most h) (sym (no-choice (leb m width)))
+  -- more chunks than the most bytes have
+  pub sized-many : mostChunks < k → false ≡ pick (leb m width) (leb (width * k + m) most) false
+  sized-many h = rw (lt-leb (width * k + m) most (omega arith)) (sym (no-choice (leb m width)))
 
   -- else the length decides, by a difference as by a sum
-  pub sized-sum : m ≤ width → width * k ≤ most → leb m (most - width * k) ≡ pick (leb m width) (leb (width * k + m) most) false
+  pub sized-sum : m ≤ width → k ≤ mostChunks → leb m (most - width * k) ≡ pick (leb m width) (leb (width * k + m) most) false
   sized-sum h l = rw (le-leb m width h) (same-leb m (most - width * k) (width * k + m) most (λ a. omega arith) (λ a. omega arith))

@@ -46,13 +46,13 @@ pub ended-apart : (x y : Finished) → ended x ≡ ended y → x ≡ y
 ended-apart = told-back ended finished finished-back
 
 pub new-one : OneAnswer new.Post
-new-one κ a r₁ r₂ s p q = one p q
+new-one κ a r₁ r₂ s₁ s₂ p q = one p q
 
 pub write-one : OneAnswer write.Post
-write-one κ a r₁ r₂ s p q = written-apart r₁ r₂ (one p q)
+write-one κ a r₁ r₂ s₁ s₂ p q = written-apart r₁ r₂ (one p q)
 
 pub finish-one : OneAnswer finish.Post
-finish-one κ a r₁ r₂ s p q = ended-apart r₁ r₂ (one p q)
+finish-one κ a r₁ r₂ s₁ s₂ p q = ended-apart r₁ r₂ (one p q)
 
 pub reset-one : OneAnswer reset.Post
-reset-one κ a r₁ r₂ s p q = one p q
+reset-one κ a r₁ r₂ s₁ s₂ p q = one p q

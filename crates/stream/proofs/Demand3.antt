@@ -1,5 +1,6 @@
 -- What a reader of the stream looks for (demand 3): cuts do not matter, finish is the whole-message hash, sound states stay sound,
--- a refusal changes nothing, and any sequence of calls answers as on a plain list of the accepted bytes. Assumes nothing.
+-- a refusal changes nothing, any sequence of calls answers as on a plain list of the accepted bytes and leads to a sound state, and how many
+-- chunks there are at most. Of the definitions; `OfTheCode` carries it to the code. Assumes nothing.
 use Prim.Native.Nat.{ℕ, _+_, _-_, _*_, _≤_, _<_}
 use mathlib.Core.Path.{_≡_, refl, _∙_, ap, sym}
 use mathlib.Core.Bool.{true, false}
@@ -16,6 +17,8 @@ use Rattle.stream.specs.declared.rapid_stream_hasher.Settings.{Settings}
 use Rattle.stream.specs.declared.rapid_stream_hasher.RapidStreamHasher.{RapidStreamHasher}
 use Rattle.stream.specs.declared.rapid_stream_hasher.Outcome.the-variants.{Took, NotSound, TooLong}
 use Rattle.stream.specs.declared.rapid_stream_hasher.Finished.the-variants.{Hash}
+use Rattle.stream.proofs.Seven.{lanes, some-lanes}
+use Rattle.stream.proofs.Sound.{most-chunks}
 use Rattle.stream.proofs.Whole.{stream-count, stream-is-message}
 use Rattle.stream.proofs.Good.{total}
 use Rattle.stream.proofs.Hold.{view-hold, sound-hold, good-view, total-view, hold-view}
@@ -137,3 +140,28 @@ module _ (L : ℕ) (pos : 0 < L) (few : L ≤ 7) where
   as-a-list o cs =
       let last : taken L (after L o []) (onList L o [] cs .last) ≡ after L o (onList L o [] cs .last) = taken-after o [] (onList L o [] cs .last) in
       rw (← after-none L o) (from-after o [] cs (omega arith) ∙ rw last)
+
+  module _ (o : Settings) where
+    -- the accepted bytes are never too many
+    pub list-short : (bytes : List ℕ) (cs : List Call) → length bytes ≤ most → length (onList L o bytes cs .last) ≤ most
+    unfolding onList
+    list-short bytes [] m = m
+    list-short bytes (write s ∷ cs) m = go (decLe (length bytes + length s) most) (λ b l. list-short b cs l)
+      where
+        go : Dec (length bytes + length s ≤ most) → ((b : List ℕ) → length b ≤ most → length (onList L o b cs .last) ≤ most)
+            → length (onList L o bytes (write s ∷ cs) .last) ≤ most
+        go (yes l) later = rw (le-leb (length bytes + length s) most l) (later (bytes ++ s) (rw length-append l))
+        go (no n) later = rw (lt-leb (length bytes + length s) most (omega arith)) (later bytes m)
+    list-short bytes (finish ∷ cs) m = list-short bytes cs m
+    list-short bytes (reset ∷ cs) m = list-short [] cs (omega arith)
+
+    -- (f) So every state that calls lead to from an opening is sound.
+    pub reached-sound : (cs : List Call) → sound L (onStates L (openingOf o) cs .last) ≡ true
+    reached-sound cs =
+        let l = onList L o [] cs .last in
+        rw (← after-none L o, from-after o [] cs (omega arith)) (sound-after L o pos l (list-short [] cs (omega arith)))
+
+-- (g) A sound state of the code's size has mixed at most 164703072086692425 chunks, and at most 15 bytes wait where it has mixed as many.
+pub most-chunks-seven : (h : RapidStreamHasher) → sound lanes h ≡ true
+    → (h .count ≤ 164703072086692425) × (h .count ≡ 164703072086692425 → h .waiting ≤ 15)
+most-chunks-seven h = most-chunks lanes h some-lanes

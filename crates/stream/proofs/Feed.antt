@@ -40,21 +40,21 @@ module _ (L : ℕ) (p : Bool) (sec : List ℕ) where
       ∙ rw append-snoc
 
   -- the stream after k chunks of s, with nothing waiting
-  abbrev after : ℕ → Stream → List ℕ → Stream
-  after k t s = record { lanes = lanesAfter L p sec k (t .lanes) s; count = t .count + k; prev = slide (t .prev) (take (16 * L * k) s); rest = [] }
+  abbrev mixed : ℕ → Stream → List ℕ → Stream
+  mixed k t s = record { lanes = lanesAfter L p sec k (t .lanes) s; count = t .count + k; prev = slide (t .prev) (take (16 * L * k) s); rest = [] }
 
   -- no chunk changes nothing
-  after-none : (t : Stream) (s : List ℕ) → t .rest ≡ [] → after 0 t s ≡ t
+  mixed-none : (t : Stream) (s : List ℕ) → t .rest ≡ [] → mixed 0 t s ≡ t
   unfolding lanesAfter
-  after-none t s e =
+  mixed-none t s e =
       let none : 16 * L * 0 ≡ 0 = omega arith in
       let same : t .count + 0 ≡ t .count = omega arith in
       rw (none, same, slide-none, ← e)
 
   -- one chunk and then k more
-  after-more : (k : ℕ) (t : Stream) (s : List ℕ) → after k (after 1 t s) (drop (16 * L) s) ≡ after (suc k) t s
+  mixed-more : (k : ℕ) (t : Stream) (s : List ℕ) → mixed k (mixed 1 t s) (drop (16 * L) s) ≡ mixed (suc k) t s
   unfolding lanesAfter
-  after-more k t s =
+  mixed-more k t s =
       let one : 16 * L * 1 ≡ 16 * L = omega arith in
       let count : t .count + 1 + k ≡ t .count + suc k = omega arith in
       rw (one, times-more, count, slide-slide, ← take-add)
@@ -73,7 +73,7 @@ module _ (L : ℕ) (p : Bool) (sec : List ℕ) where
     feed-next t (b ∷ bs) h n = feed-full t b bs h
 
     -- a chunk that at least one byte follows is mixed
-    feed-chunk : (t : Stream) (s : List ℕ) → t .rest ≡ [] → 16 * L < length s → feed L p sec t s ≡ feed L p sec (after 1 t s) (drop (16 * L) s)
+    feed-chunk : (t : Stream) (s : List ℕ) → t .rest ≡ [] → 16 * L < length s → feed L p sec t s ≡ feed L p sec (mixed 1 t s) (drop (16 * L) s)
     unfolding mixedIn lanesAfter
     feed-chunk t s e h =
         let c = take (16 * L) s in
@@ -90,14 +90,14 @@ module _ (L : ℕ) (p : Bool) (sec : List ℕ) where
 
     -- and k chunks are
     feed-some : (k : ℕ) (t : Stream) (s : List ℕ) → t .rest ≡ [] → 16 * L * k ≤ length s - 1
-        → feed L p sec t s ≡ feed L p sec (after k t s) (drop (16 * L * k) s)
+        → feed L p sec t s ≡ feed L p sec (mixed k t s) (drop (16 * L * k) s)
     feed-some zero t s e h =
         let none : 16 * L * 0 ≡ 0 = omega arith in
-        rw (after-none t s e, none)
+        rw (mixed-none t s e, none)
     feed-some (suc k) t s e h =
         feed-chunk t s e (omega (arith, times-more (16 * L) k))
-        ∙ feed-some k (after 1 t s) (drop (16 * L) s) refl (rw length-drop (omega (arith, times-more (16 * L) k)))
-        ∙ rw (after-more k t s, drop-drop, times-more)
+        ∙ feed-some k (mixed 1 t s) (drop (16 * L) s) refl (rw length-drop (omega (arith, times-more (16 * L) k)))
+        ∙ rw (mixed-more k t s, drop-drop, times-more)
 
     -- all the chunks that s mixes, and the rest of it waits
     pub feed-chunks : (t : Stream) (s : List ℕ) → t .rest ≡ []
@@ -110,4 +110,4 @@ module _ (L : ℕ) (p : Bool) (sec : List ℕ) where
     feed-chunks t s e =
         let k = chunks (16 * L) (length s) in
         feed-some k t s e (chunks-before (16 * L) (length s))
-        ∙ feed-short (after k t s) (drop (16 * L * k) s) (rw length-drop (omega (arith, chunks-left (16 * L) (length s) (omega arith))))
+        ∙ feed-short (mixed k t s) (drop (16 * L * k) s) (rw length-drop (omega (arith, chunks-left (16 * L) (length s) (omega arith))))

@@ -9,7 +9,9 @@ pub mod Ending
 pub mod Feed
 pub mod Good
 pub mod Hold
+pub mod OfTheCode
 pub mod ReadBack
+pub mod Runs
 pub mod Seven
 pub mod Slide
 pub mod Sound

@@ -1,7 +1,8 @@
 -- The size that the code is for: seven lanes, as the full hash has. The laws below it are over L; those beside it join them to the code.
 -- Assumes nothing.
-use Prim.Native.Nat.{ℕ, _*_, _≤_, _<_}
+use Prim.Native.Nat.{ℕ, _*_, _/_, _≤_, _<_}
 use native.Mathlib.Omega.{arith}
+use Rattle.stream.specs.State.{most}
 
 -- its lanes
 abbrev pub lanes : ℕ
@@ -11,7 +12,11 @@ lanes = 7
 abbrev pub width : ℕ
 width = 16 * lanes
 
--- there are some, and not too many
+-- the most chunks that the bytes of a stream have: the code's `MOST_CHUNKS`
+abbrev pub mostChunks : ℕ
+mostChunks = most / width
+
+-- there are some lanes, and not too many
 pub some-lanes : 0 < lanes
 some-lanes = omega arith
 

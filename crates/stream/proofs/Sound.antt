@@ -1,8 +1,9 @@
--- The tests of a sound state, each as the fact that it tells. Assumes nothing.
-use Prim.Native.Nat.{ℕ, _+_, _*_, _≤_, _<_}
+-- The tests of a sound state, each as the fact that it tells, and the most chunks that they leave room for. Assumes nothing.
+use Prim.Native.Nat.{ℕ, _+_, _*_, _/_, _%_, _≤_, _<_}
 use mathlib.Core.Path.{_≡_, refl}
 use mathlib.Core.Bool.{Bool, true, false}
 use native.Mathlib.Omega.{arith}
+use native.Mathlib.Nat.{div-add-mod, le-div-iff-mul-le}
 use lib.Dec.{eqb, leb}
 use lib.ListN.{take, drop}
 use borrow.Author.Tests.{le-leb, leb-true, eq-eqb, ne-eqb, eqb-true, eqb-false}
@@ -41,6 +42,13 @@ module _ (n : ℕ) (a : Bool) where
 
   some-asks : pick (eqb n 0) true a ≡ true → 0 < n → a ≡ true
   some-asks h p = rw (ne-eqb n 0 (λ e. omega arith)) at h
+
+-- k chunks of w bytes and m bytes, n at most: k is at most n / w, and there m is at most n % w
+pub chunks-within : (w k m n : ℕ) → 0 < w → w * k + m ≤ n → (k ≤ n / w) × (k ≡ n / w → m ≤ n % w)
+chunks-within w k m n pos l = (le-div-iff-mul-le pos .1 (omega arith), λ e. rest (rw e at l))
+  where
+    rest : w * (n / w) + m ≤ n → m ≤ n % w
+    rest q = omega (arith, div-add-mod n w)
 
 -- at most a chunk waits; before the first chunk the lanes are the seed and the first 16 bytes zero; after it at least one byte waits; unused
 -- bytes are zero; it is not too long
@@ -81,3 +89,8 @@ module _ (L : ℕ) (h : RapidStreamHasher) where
         unused = e .0;
         short = leb-true (sofar L h) most (f .0);
       }
+
+  -- A sound state has mixed at most as many chunks as the most bytes have; where it has mixed as many, at most the rest of those bytes waits.
+  pub most-chunks : 0 < L → sound L h ≡ true
+      → (h .count ≤ most / (16 * L)) × (h .count ≡ most / (16 * L) → h .waiting ≤ most % (16 * L))
+  most-chunks pos ok = chunks-within (16 * L) (h .count) (h .waiting) most (omega arith) (sound-facts ok .short)

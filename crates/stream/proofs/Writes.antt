@@ -22,6 +22,12 @@ use Rattle.stream.proofs.Hold.{waits, good-view, hold-view}
 use Rattle.stream.proofs.Sound.{sound-facts}
 use Rattle.stream.proofs.Seven.{lanes, width, few-lanes}
 
+-- the state that bytes s lead to, under the settings of h, from a stream in which none wait: its lanes l, its count k, and the bytes before
+abbrev went-on : RapidStreamHasher → List ℕ → ℕ → List ℕ → List ℕ → RapidStreamHasher
+went-on h l k prev s =
+    let o = h .settings in
+    hold o (feed lanes (o .protected) (o .secrets .secrets) (record { lanes = l; count = k; prev = prev; rest = [] }) s)
+
 module _ (h : RapidStreamHasher) (size : length (h .buffer) ≡ 128) (ok : sound lanes h ≡ true) where
   -- the bytes before and those that wait
   abbrev used : List ℕ
@@ -67,8 +73,7 @@ module _ (h : RapidStreamHasher) (size : length (h .buffer) ≡ 128) (ok : sound
 
   -- where none waits the stream has just mixed a chunk, or none
   pub none-waits : (s : List ℕ) {r : RapidStreamHasher} → h .waiting ≡ 0
-      → r ≡ hold (h .settings) (feed lanes (h .settings .protected) (h .settings .secrets .secrets) (record { lanes = h .lanes; count = h .count; prev = take 16 (h .buffer); rest = [] }) s)
-      → r ≡ taken lanes h s
+      → r ≡ went-on h (h .lanes) (h .count) (take 16 (h .buffer)) s → r ≡ taken lanes h s
   unfolding taken view
   none-waits s z e = rw z e
 
@@ -105,13 +110,13 @@ module _ (h : RapidStreamHasher) (size : length (h .buffer) ≡ 128) (ok : sound
 
     -- it is mixed, and the other bytes go on from there
     pub chunk-filled : {l : List ℕ} {r : RapidStreamHasher} → l ≡ firstOf lanes (h .settings .protected) (h .settings .secrets .secrets) (h .lanes) (drop 16 full)
-        → r ≡ hold (h .settings) (feed lanes (h .settings .protected) (h .settings .secrets .secrets) (record { lanes = l; count = h .count + 1; prev = drop width full; rest = [] }) (drop (width - h .waiting) s))
-        → r ≡ taken lanes h s
+        → r ≡ went-on h l (h .count + 1) (drop width full) (drop (width - h .waiting) s) → r ≡ taken lanes h s
     unfolding taken mixedIn view
     chunk-filled {l} el er =
         let o = h .settings in
         let first = feed-short lanes (o .protected) (o .secrets .secrets) (view h) (take (width - h .waiting) s) (rw (← length-append, chunk-length) (le-refl _)) in
-        let next = feed-next lanes (o .protected) (o .secrets .secrets) (omega arith) waiting (drop (width - h .waiting) s) chunk-length (rw length-drop (omega (arith, sound-facts lanes h ok .within))) in
+        let more : 0 < length (drop (width - h .waiting) s) = rw length-drop (omega (arith, sound-facts lanes h ok .within)) in
+        let next = feed-next lanes (o .protected) (o .secrets .secrets) (omega arith) waiting (drop (width - h .waiting) s) chunk-length more in
         let parts : feed lanes (o .protected) (o .secrets .secrets) (view h) s
         ≡ feed lanes (o .protected) (o .secrets .secrets) (mixedIn lanes (o .protected) (o .secrets .secrets) waiting) (drop (width - h .waiting) s) =
         ap (λ (x : List ℕ). feed lanes (o .protected) (o .secrets .secrets) (view h) x) (sym (take-append-drop (width - h .waiting) s))
@@ -132,7 +137,7 @@ module _ (h : RapidStreamHasher) (size : length (h .buffer) ≡ 128) (ok : sound
       → full ≡ take (16 + h .waiting) (h .buffer) ++ take (112 - h .waiting - 0) s ++ drop (16 + h .waiting + length (take (112 - h .waiting - 0) s)) (h .buffer)
       → length full ≡ 128
       → l ≡ firstOf lanes (h .settings .protected) (h .settings .secrets .secrets) (h .lanes) (take (128 - 16) (drop 16 full))
-      → r ≡ hold (h .settings) (feed lanes (h .settings .protected) (h .settings .secrets .secrets) (record { lanes = l; count = h .count + 1; prev = take (128 - 112) (drop 112 full); rest = [] }) (take (length s - (112 - h .waiting)) (drop (112 - h .waiting) s)))
+      → r ≡ went-on h l (h .count + 1) (take (128 - 112) (drop 112 full)) (take (length s - (112 - h .waiting)) (drop (112 - h .waiting) s))
       → r ≡ taken lanes h s
   inner-filled s full over e n el er =
       let z : 112 - h .waiting - 0 ≡ 112 - h .waiting = omega arith in

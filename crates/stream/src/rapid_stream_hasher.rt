@@ -23,8 +23,17 @@ use rapidhash::v3::rapid_const::tail_steps;
 use secrets::util::found::Found;
 use secrets::v3::seed::RapidSecrets;
 
+// The size of a chunk.
+const CHUNK_SIZE: usize = 112;
+
+// How many bytes of the previous chunk stand before those that wait.
+const CHUNK_PREV: usize = 16;
+
+// Room for both.
+type Buffer = [u8; CHUNK_PREV + CHUNK_SIZE];
+
 // The most chunks that a stream of at most 2^64 - 1 bytes has mixed.
-const MOST_CHUNKS: u64 = 164703072086692425;
+const MOST_CHUNKS: u64 = u64::MAX / CHUNK_SIZE as u64;
 
 // What an opening fixes.
 #[repr(C)]
@@ -42,7 +51,7 @@ pub struct RapidStreamHasher {
     pub lanes: [u64; 7],
     pub count: u64,
     pub waiting: usize,
-    pub buffer: [u8; 128],
+    pub buffer: Buffer,
 }
 
 // What a write says: all bytes were taken, or none, since the state is not sound or the stream would be too long, with
@@ -135,10 +144,10 @@ fn opening(settings: Settings) -> RapidStreamHasher
 }
 
 // A buffer that holds nothing.
-fn blank() -> [u8; 128]
+fn blank() -> Buffer
     ensures { λ r. ⌜ r ≡ replicate 128 0 ⌝ }
 {
-    [0; 128]
+    [0; CHUNK_PREV + CHUNK_SIZE]
 }
 
 // Whether a state may be gone on from.
@@ -168,29 +177,29 @@ fn is_sound(h: RapidStreamHasher) -> bool
 fn is_sized(count: u64, waiting: usize) -> bool
     ensures { λ r. ⌜ r ≡ pick (leb waiting 112) (leb (112 * count + waiting) most) false ⌝ }
 {
-    if 112 < waiting {
+    if CHUNK_SIZE < waiting {
         return false;
     }
     if MOST_CHUNKS < count {
         return false;
     }
-    waiting as u64 <= u64::MAX - 112 * count
+    waiting as u64 <= u64::MAX - CHUNK_SIZE as u64 * count
 }
 
 // Whether nothing stands behind the bytes that wait.
-fn is_clear_after(buffer: [u8; 128], waiting: usize) -> bool
+fn is_clear_after(buffer: Buffer, waiting: usize) -> bool
     requires { ⌜ waiting ≤ 112 ⌝ }
     ensures { λ r. ⌜ r ≡ allAre 0 (drop (16 + waiting) buffer) ⌝ }
 {
-    let at = 16 + waiting;
+    let at = CHUNK_PREV + waiting;
     all_zero(&buffer[at..])
 }
 
 // Whether nothing stands before them.
-fn is_clear_before(buffer: [u8; 128]) -> bool
+fn is_clear_before(buffer: Buffer) -> bool
     ensures { λ r. ⌜ r ≡ allAre 0 (take 16 buffer) ⌝ }
 {
-    all_zero(&buffer[0..16])
+    all_zero(&buffer[0..CHUNK_PREV])
 }
 
 // Whether all lanes are one number.
@@ -210,7 +219,7 @@ fn room_left(count: u64, waiting: usize) -> u64
     requires { ⌜ 112 * count + waiting ≤ most ⌝ }
     ensures { λ r. ⌜ r ≡ most - (112 * count + waiting) ⌝ }
 {
-    u64::MAX - (112 * count + waiting as u64)
+    u64::MAX - (CHUNK_SIZE as u64 * count + waiting as u64)
 }
 
 // All bytes taken: while they fit they only wait.
@@ -219,7 +228,7 @@ fn with_bytes(h: RapidStreamHasher, data: &[u8]) -> RapidStreamHasher
     ensures { λ r. ⌜ r ≡ taken 7 h (now («data» .entry)) ⌝ }
 {
     let m = h.waiting;
-    if data.len() <= 112 - m {
+    if data.len() <= CHUNK_SIZE - m {
         waited(h, data)
     } else {
         write_inner(h, data)
@@ -240,7 +249,7 @@ fn waited(h: RapidStreamHasher, data: &[u8]) -> RapidStreamHasher
         lanes,
         count: h.count,
         waiting: m + data.len(),
-        buffer: put(buffer, 16 + m, data),
+        buffer: put(buffer, CHUNK_PREV + m, data),
     }
 }
 
@@ -255,13 +264,25 @@ fn write_inner(h: RapidStreamHasher, data: &[u8]) -> RapidStreamHasher
     let lanes = h.lanes;
     let buffer = h.buffer;
     if m == 0 {
-        return from_chunk_end(settings, lanes, h.count, &buffer[0..16], data);
+        return from_chunk_end(settings, lanes, h.count, &buffer[0..CHUNK_PREV], data);
     }
-    let fill = 112 - m;
-    let full = put(buffer, 16 + m, &data[0..fill]);
+    let fill = CHUNK_SIZE - m;
+    let full = put(buffer, CHUNK_PREV + m, &data[0..fill]);
     let s = settings.secrets.secrets;
-    let next = mix_first(&full[16..], s, lanes, Size::Full, settings.protected);
-    from_chunk_end(settings, next, h.count + 1, &full[112..], &data[fill..])
+    let next = mix_first(
+        &full[CHUNK_PREV..],
+        s,
+        lanes,
+        Size::Full,
+        settings.protected,
+    );
+    from_chunk_end(
+        settings,
+        next,
+        h.count + 1,
+        &full[CHUNK_SIZE..],
+        &data[fill..],
+    )
 }
 
 // Bytes to a stream in which none wait, after the 16 that end its last chunk: whole chunks are mixed straight from the
@@ -285,14 +306,14 @@ fn from_chunk_end<'a>(
     RapidStreamHasher {
         settings,
         lanes: next,
-        count: count + (at / 112) as u64,
+        count: count + (at / CHUNK_SIZE) as u64,
         waiting: data.len() - at,
-        buffer: put(ended, 16, &data[at..]),
+        buffer: put(ended, CHUNK_PREV, &data[at..]),
     }
 }
 
 // A part put into the buffer from a place on.
-fn put(buffer: [u8; 128], at: usize, part: &[u8]) -> [u8; 128]
+fn put(buffer: Buffer, at: usize, part: &[u8]) -> Buffer
     requires { ⌜ at + length (now part) ≤ 128 ⌝ }
     ensures { λ r. ⌜ r ≡ take at buffer ++ now (part .entry) ++ drop (at + length (now (part .entry))) buffer ⌝ }
 {
@@ -306,7 +327,11 @@ fn last_sixteen<'a>(prev: &'a [u8], data: &'a [u8], at: usize) -> &'a [u8]
     requires { ⌜ (length (now prev) ≡ 16) × (at ≤ length (now «data»)) × (at < 16 → at ≡ 0) ⌝ }
     ensures { λ r. ⌜ now r ≡ slide (now (prev .entry)) (take at (now («data» .entry))) ⌝ }
 {
-    if 16 <= at { &data[at - 16..at] } else { prev }
+    if CHUNK_PREV <= at {
+        &data[at - CHUNK_PREV..at]
+    } else {
+        prev
+    }
 }
 
 // The hash of a sound state: while no chunk is mixed, that of the bytes that wait.
@@ -320,7 +345,7 @@ fn hash_of(h: RapidStreamHasher) -> u64
     let buffer = h.buffer;
     if h.count == 0 {
         return rapidhash_v3_inline(
-            &buffer[16..16 + m],
+            &buffer[CHUNK_PREV..CHUNK_PREV + m],
             secrets,
             settings.avalanche,
             true,
@@ -333,7 +358,13 @@ fn hash_of(h: RapidStreamHasher) -> u64
     let e = Ends {
         a: word_at(&buffer, m) ^ m as u64,
         b: word_at(&buffer, m + 8),
-        seed: tail_steps(&buffer[16..16 + m], s[1], s[2], seed, settings.protected),
+        seed: tail_steps(
+            &buffer[CHUNK_PREV..CHUNK_PREV + m],
+            s[1],
+            s[2],
+            seed,
+            settings.protected,
+        ),
         r: m as u64,
     };
     last_step(e, s, settings.avalanche, settings.protected)

@@ -41,62 +41,63 @@ answer-apart =
     (λ t. record { number = t .number; place = t .place; tag = t .tag; start = t .start; length = t .length; fingerprint = t .fingerprint })
     (λ x. refl)
 
-abbrev after : RapidStreamHasher → StreamWrote → StreamWritten
-after h w = record { state = h; says = w }
+-- a write's answer from the state and what is said
+abbrev written : RapidStreamHasher → StreamWrote → StreamWritten
+written h w = record { state = h; says = w }
 
 pub written-apart : (x y : StreamWritten) → answerOf x ≡ answerOf y → x ≡ y
-written-apart = told-back answerOf (λ a. after (a .state) (record { number = a .says .number; room = a .says .room })) (λ x. refl)
+written-apart = told-back answerOf (λ a. written (a .state) (record { number = a .says .number; room = a .says .room })) (λ x. refl)
 
 pub ended-apart : (x y : StreamEnded) → endedOf x ≡ endedOf y → x ≡ y
 ended-apart = told-back endedOf (λ e. record { number = e .number; hash = e .hash; count = e .count }) (λ x. refl)
 
 pub word8-one : OneAnswer word8.Post
-word8-one κ a r₁ r₂ s p q = one p q
+word8-one κ a r₁ r₂ s₁ s₂ p q = one p q
 
 pub word4-one : OneAnswer word4.Post
-word4-one κ a r₁ r₂ s p q = one p q
+word4-one κ a r₁ r₂ s₁ s₂ p q = one p q
 
 pub seed-one : OneAnswer seed.Post
-seed-one κ a r₁ r₂ s p q = one p q
+seed-one κ a r₁ r₂ s₁ s₂ p q = one p q
 
 pub seed-cpp-one : OneAnswer seed-cpp.Post
-seed-cpp-one κ a r₁ r₂ s p q = one p q
+seed-cpp-one κ a r₁ r₂ s₁ s₂ p q = one p q
 
 pub reseed-one : OneAnswer reseed.Post
-reseed-one κ a r₁ r₂ s p q = one p q
+reseed-one κ a r₁ r₂ s₁ s₂ p q = one p q
 
 pub default-secrets-one : OneAnswer default-secrets.Post
-default-secrets-one κ a r₁ r₂ s p q = one p q
+default-secrets-one κ a r₁ r₂ s₁ s₂ p q = one p q
 
 pub secret-one : OneAnswer secret.Post
-secret-one κ a r₁ r₂ s p q = one p q
+secret-one κ a r₁ r₂ s₁ s₂ p q = one p q
 
 pub full-one : OneAnswer full.Post
-full-one κ a r₁ r₂ s p q = one p q
+full-one κ a r₁ r₂ s₁ s₂ p q = one p q
 
 pub micro-one : OneAnswer micro.Post
-micro-one κ a r₁ r₂ s p q = one p q
+micro-one κ a r₁ r₂ s₁ s₂ p q = one p q
 
 pub nano-one : OneAnswer nano.Post
-nano-one κ a r₁ r₂ s p q = one p q
+nano-one κ a r₁ r₂ s₁ s₂ p q = one p q
 
 pub open-one : OneAnswer opened.Post
-open-one κ a r₁ r₂ s p q = one p q
+open-one κ a r₁ r₂ s₁ s₂ p q = one p q
 
 pub read-one : OneAnswer read.Post
-read-one κ a r₁ r₂ s p q = answer-apart r₁ r₂ (one p q)
+read-one κ a r₁ r₂ s₁ s₂ p q = answer-apart r₁ r₂ (one p q)
 
 pub find-one : OneAnswer find.Post
-find-one κ a r₁ r₂ s p q = answer-apart r₁ r₂ (one p q)
+find-one κ a r₁ r₂ s₁ s₂ p q = answer-apart r₁ r₂ (one p q)
 
 pub fingerprint-one : OneAnswer fingerprint.Post
-fingerprint-one κ a r₁ r₂ s p q = answer-apart r₁ r₂ (one p q)
+fingerprint-one κ a r₁ r₂ s₁ s₂ p q = answer-apart r₁ r₂ (one p q)
 
 -- of a lent stream the answer and the state after it are fixed
 module _ {M : Type 1} (𝓤 : URA M) (H : Heap 𝓤) (A : Atoms 𝓤) (mem : Memory → SProp 𝓤) (run : Routine → Fun 𝓤) where
-  pub stream-write-one : OneAfter 𝓤 stream-write.ended (stream-write.clauses 𝓤 H A mem run) (λ κs r e. after (now (e .0)) r)
+  pub stream-write-one : OneAfter 𝓤 stream-write.ended (stream-write.clauses 𝓤 H A mem run) (λ κs r e. written (now (e .0)) r)
   stream-write-one κs a g r₁ r₂ e₁ e₂ =
-      both 𝓤 H A mem run _ _ (λ p q. written-apart (after (now (e₁ .0)) r₁) (after (now (e₂ .0)) r₂) (one p q))
+      both 𝓤 H A mem run _ _ (λ p q. written-apart (written (now (e₁ .0)) r₁) (written (now (e₂ .0)) r₂) (one p q))
 
   pub stream-finish-one : OneAfter 𝓤 stream-finish.ended (stream-finish.clauses 𝓤 H A mem run) (λ κs r e. r)
   stream-finish-one κs a g r₁ r₂ e₁ e₂ = both 𝓤 H A mem run _ _ (λ p q. ended-apart r₁ r₂ (one p q))

@@ -94,8 +94,8 @@ abbrev sv : RefT (List ℕ) → Val
 sv d = sliceVal (d .ptr) (length (d .now))
 
 -- the hasher after a write of bytes
-abbrev after : RapidStreamHasher → RefT (List ℕ) → RapidStreamHasher
-after h d = writeOf 7 h (d .now) .state
+abbrev next : RapidStreamHasher → RefT (List ℕ) → RapidStreamHasher
+next h d = writeOf 7 h (d .now) .state
 
 -- a reference to the hasher h in the local at l, under the name γ
 abbrev ref : ℕ → RapidStreamHasher → GName → RefT RapidStreamHasher
@@ -152,7 +152,7 @@ module _ {M : Type 1} (𝓤 : URA M) (H : Heap 𝓤) (A : Atoms 𝓤) (at-mem : 
           ensured 𝓤 H A write.ended (write.clauses 𝓤 H A at-mem run) (z .0 ∷ [], (κ, tt)) (ref l h (z .1), (d, tt)) tt u
 
       -- of that the state after it
-      told : (z : ℕ × GName) (u : Outcome) → ent 𝓤 (Ensured z u) (A .res (z .1) (R .coded .code (after h d)))
+      told : (z : ℕ × GName) (u : Outcome) → ent 𝓤 (Ensured z u) (A .res (z .1) (R .coded .code (next h d)))
       told z u = exE 𝓤 _ (λ ws.
           let L : SProp 𝓤 = sem 𝓤 H A (lasts write.ended (z .0 ∷ [], (κ, tt)) (ref l h (z .1), (d, tt)) ws) in
           let E : Type 0 = record { state = ws .0; says = said u } ≡ writeOf 7 h (d .now) in
@@ -165,8 +165,8 @@ module _ {M : Type 1} (𝓤 : URA M) (H : Heap 𝓤) (A : Atoms 𝓤) (at-mem : 
           {i : Place} {rest : Code}
           → K → FmC 𝓤 H (W .laws) C → Triple 𝓤 (C f) Write → (v : Val) → Is R h (v ∷ [])
           → ((z : ℕ × GName) → Opds K W (raw (Write .pre (to-write z)) ∷ ‵ (Lent l z) ∷ Γ) E xs (vptr l 0 ∷ sv d ∷ []))
-          → ((w : Val) (u : Outcome) → Is R (after h d) (vals (after h d)) → Is O.the-row u (w ∷ [])
-          → Seq K W (‵ (cell l (val (after h d))) ∷ token ∷ Γ) (lands C Λ E i w rest p))
+          → ((w : Val) (u : Outcome) → Is R (next h d) (vals (next h d)) → Is O.the-row u (w ∷ [])
+          → Seq K W (‵ (cell l (val (next h d))) ∷ token ∷ Γ) (lands C Λ E i w rest p))
           → Seq K W (‵ (cell l v) ∷ token ∷ ‵ bytes ∷ Γ) (runs C Λ E (seq (call f xs i) rest) p)
       writes t fm known v is os k =
           lies t h v l 0 is $ lft-new t tt (λ α. move t (1 ∷ []) $
@@ -178,10 +178,10 @@ module _ {M : Type 1} (𝓤 : URA M) (H : Heap 𝓤) (A : Atoms 𝓤) (at-mem : 
           calls-at t fm Write known (to-write (α, γ)) (os (α, γ)) (λ w.
           use1 W (later (some (λ (u : Outcome). ((‵ (flft (α ∷ []) fullShare) ⊛ token) ⊛ ‵ (O.the-row .own u (w ∷ []))) ⊛ raw _))) (id⊢ 𝓤 _) $
           await t tt $ pick t (λ u. split t $ move t (1 ∷ []) $
-          use1 W (‵ (fres γ (R .coded .code (after h d)))) (told (α, γ) u) $ move t (1 ∷ []) $ split t $ move t (1 ∷ []) $
+          use1 W (‵ (fres γ (R .coded .code (next h d)))) (told (α, γ) u) $ move t (1 ∷ []) $ split t $ move t (1 ∷ []) $
           facts t O.the-row (Is O.the-row) (shows 𝓤 H A O.the-row) u (w ∷ []) (λ out. split t $ lft-end t tt $ move t (0 ∷ 3 ∷ 2 ∷ []) $
-          use3 W (later (‵ (partAt R fullShare (after h d) l 0))) (ref-back 𝓤 H A W R (α ∷ []) γ (after h d) l 0) $ await t tt $
-          stands t (after h d) l 0 (λ is′. k w u is′ out))))))
+          use3 W (later (‵ (partAt R fullShare (next h d) l 0))) (ref-back 𝓤 H A W R (α ∷ []) γ (next h d) l 0) $ await t tt $
+          stands t (next h d) l 0 (λ is′. k w u is′ out))))))
 
     -- ---- and to `finish`
     module _ (l : ℕ) (h : RapidStreamHasher) where
@@ -221,11 +221,11 @@ module _ {M : Type 1} (𝓤 : URA M) (H : Heap 𝓤) (A : Atoms 𝓤) (at-mem : 
 
       -- after the first part
       abbrev h₁ : RapidStreamHasher
-      h₁ = after h₀ d
+      h₁ = next h₀ d
 
       -- and after the second
       abbrev h₂ : RapidStreamHasher
-      h₂ = after h₁ e
+      h₂ = next h₁ e
 
       -- the parameters' types
       abbrev Params : List RattleType

@@ -41,4 +41,4 @@ write-spec 𝓤 H 𝓜 𝓖 𝓡 =
     carried 𝓤 H 𝓜 𝓖 𝓡 _ _ #write core.name code.function core.routine code.env (code.unfolded 𝓤 H 𝓜 𝓡)
     code.calls-stream·rapid-stream-hasher·RapidStreamHasher·write (core-thm.met 𝓤 H 𝓜 𝓖 𝓡)
     (meets core.name outcome (λ h s r. answered r ≡ writeOf 7 h s)
-    (λ h s after r. record { state = after; says = said r } ≡ writeOf 7 h s) (λ h s r e. e) 𝓤 H (𝓖 .A))
+    (λ h s next r. record { state = next; says = said r } ≡ writeOf 7 h s) (λ h s r e. e) 𝓤 H (𝓖 .A))

@@ -7,10 +7,15 @@ use Rattle.stream.proofs.rapid_stream_hasher.from_chunk_end.Statement.{
 use Rattle.stream.proofs.rapid_stream_hasher.from_chunk_end.Tie as tie
 
 last-sixteen-requires : tie.Need-last-sixteen-requires
-last-sixteen-requires c κs = (c .before .before .before .before .before .before .pre .0, at-within _ _ _ _ (c .before .before .mix-chunks .ensures), at-steps _ _ _ _ (c .before .before .mix-chunks .ensures))
+last-sixteen-requires c κs =
+    let e = c .before .before .mix-chunks .ensures in
+    (c .before .before .before .before .before .before .pre .0, at-within _ _ _ _ e, at-steps _ _ _ _ e)
 
 put-requires : tie.Need-put-requires
-put-requires c κs = last-fits _ _ _ _ (c .before .before .before .mix-chunks .ensures) (now (c .before .before .before .before .before .before .before .args .prev)) _ (c .before .before .before .before .before .before .before .pre .0) (c .last-sixteen .ensures)
+put-requires c κs =
+    let mixed = c .before .before .before in
+    let start = mixed .before .before .before .before in
+    last-fits _ _ _ _ (mixed .mix-chunks .ensures) (now (start .args .prev)) _ (start .pre .0) (c .last-sixteen .ensures)
 
 sub-t18 : tie.Need-sub-t18
 sub-t18 c = at-within _ _ _ _ (c .before .before .before .before .mix-chunks .ensures)
@@ -26,9 +31,12 @@ put-requires-2 c κs = left-fits _ _ _ _ (c .before .before .before .before .bef
 
 returns : tie.Need-returns
 returns c =
-    let a = c .before .before .before .before .before .before .before .before .before .before .args in
-    chunk-end _ _ _ _ (c .before .before .before .before .before .before .mix-chunks .ensures) (a .settings) (now (a .prev)) (a .count) (c .before .before .before .before .blank .result)
-    (c .before .before .before .before .before .before .before .before .before .before .pre .0) (c .before .before .before .before .blank .ensures) (c .before .before .before .last-sixteen .ensures) (c .before .before .put .ensures) (c .put2 .ensures)
+    let last = c .before .before .before in
+    let empty = last .before in
+    let mixed = empty .before .before in
+    let start = mixed .before .before .before .before in
+    chunk-end _ _ _ _ (mixed .mix-chunks .ensures) (start .args .settings) (now (start .args .prev)) (start .args .count) (empty .blank .result)
+    (start .pre .0) (empty .blank .ensures) (last .last-sixteen .ensures) (c .before .before .put .ensures) (c .put2 .ensures)
 
 pub from-chunk-end-spec : {M : Type 1} → statement M
 from-chunk-end-spec =

@@ -15,7 +15,10 @@ part-rapidhash-v3-inline-end : tie.Need-part-rapidhash-v3-inline-end
 part-rapidhash-v3-inline-end c = let e = sized (c .before .before .before .before .before .before) in omega arith
 
 returns : tie.Need-returns
-returns c = hash-first (c .before .before .before .before .before .before .before .before .args .h) (sized (c .before .before .before .before .before .before .before .before)) (c .before .before .before .before .before .before .before .before .pre) (c .before .before .before .if1 .taken) (c .rapidhash-v3-inline .ensures)
+returns c =
+    let first = c .before .before .before in
+    let start = first .before .before .before .before .before in
+    hash-first (start .args .h) (sized start) (start .pre) (first .if1 .taken) (c .rapidhash-v3-inline .ensures)
 
 word-at-requires : tie.Need-word-at-requires
 word-at-requires c κs = let e = sized (c .before .before .before .before .before .before .before .before .before) in omega arith
@@ -28,8 +31,14 @@ part-tail-steps-end c = let e = sized (c .before .before .before .before .before
 
 returns-2 : tie.Need-returns-2
 returns-2 c =
-    hash-later (c .before .before .before .before .before .before .before .before .before .before .before .before .before .before .before .before .args .h) (sized (c .before .before .before .before .before .before .before .before .before .before .before .before .before .before .before .before)) (c .before .before .before .before .before .before .before .before .before .before .before .before .before .before .before .before .pre) (c .before .before .before .before .before .before .before .before .before .before .before .if1 .left) (c .before .before .before .before .before .before .word-at .ensures) (c .before .before .before .before .word-at2 .ensures)
-    (c .before .before .before .before .before .before .before .before .join .ensures) (c .before .tail-steps .ensures) (c .last-step .ensures)
+    let tail = c .before in
+    let second = tail .before .before .before in
+    let first = second .before .before in
+    let joined = first .before .before in
+    let later = joined .before .before .before in
+    let start = later .before .before .before .before .before in
+    hash-later (start .args .h) (sized start) (start .pre) (later .if1 .left) (first .word-at .ensures) (second .word-at2 .ensures)
+    (joined .join .ensures) (tail .tail-steps .ensures) (c .last-step .ensures)
 
 pub hash-of-spec : {M : Type 1} → statement M
 hash-of-spec =

@@ -14,10 +14,13 @@ sized : (c : tie.Start) → length (c .args .h .buffer) ≡ 128
 sized c = search needs
 
 part-from-chunk-end-end : tie.Need-part-from-chunk-end-end
-part-from-chunk-end-end c = let e : length (c .before .before .before .before .before .before .args .h .buffer) ≡ 128 = search needs in omega arith
+part-from-chunk-end-end c = let e = sized (c .before .before .before .before .before .before) in omega arith
 
 returns : tie.Need-returns
-returns c = let a = c .before .before .before .before .before .before .before .before .args in let e : length (a .h .buffer) ≡ 128 = search needs in none-waits (a .h) e (c .before .before .before .before .before .before .before .before .pre .0) (now (a .«data»)) (c .before .before .before .if1 .taken) (c .from-chunk-end .ensures)
+returns c =
+    let none = c .before .before .before in
+    let start = none .before .before .before .before .before in
+    none-waits (start .args .h) (sized start) (start .pre .0) (now (start .args .«data»)) (none .if1 .taken) (c .from-chunk-end .ensures)
 
 sub-fill : tie.Need-sub-fill
 sub-fill c = sound-facts 7 _ (c .before .before .before .before .before .pre .0) .within
@@ -29,7 +32,13 @@ put-requires : tie.Need-put-requires
 put-requires c κs = simp length-take (omega (arith, sound-facts 7 _ (c .before .before .before .before .before .before .pre .0) .within))
 
 returns-2 : tie.Need-returns-2
-returns-2 c = let a = c .before .before .before .before .before .before .before .before .before .before .before .before .before .before .before .before .args in let e = sized (c .before .before .before .before .before .before .before .before .before .before .before .before .before .before .before .before) in let n : length (c .before .before .before .before .before .before .before .before .before .put .result) ≡ 128 = search needs in inner-filled (a .h) e (c .before .before .before .before .before .before .before .before .before .before .before .before .before .before .before .before .pre .0) (now (a .«data»)) (c .before .before .before .before .before .before .before .before .before .put .result) (c .before .before .before .before .before .before .before .before .before .before .before .before .before .before .before .before .pre .1) (c .before .before .before .before .before .before .before .before .before .put .ensures) n (c .before .before .before .before .before .mix-first .ensures) (c .from-chunk-end2 .ensures)
+returns-2 c =
+    let mixed = c .before .before .before .before .before in
+    let filled = mixed .before .before .before .before in
+    let start = filled .before .before .before .before .before .before .before in
+    let n : length (filled .put .result) ≡ 128 = search needs in
+    inner-filled (start .args .h) (sized start) (start .pre .0) (now (start .args .«data»)) (filled .put .result) (start .pre .1)
+    (filled .put .ensures) n (mixed .mix-first .ensures) (c .from-chunk-end2 .ensures)
 
 pub write-inner-spec : {M : Type 1} → statement M
 write-inner-spec =

@@ -41,4 +41,4 @@ tulgranie-stream-write-spec 𝓤 H 𝓜 𝓖 𝓡 =
     carried 𝓤 H 𝓜 𝓖 𝓡 _ _ #write core.name code.function core.routine code.env (code.unfolded 𝓤 H 𝓜 𝓡)
     code.calls-tulgranie·streams·written (core-thm.met 𝓤 H 𝓜 𝓖 𝓡)
     (meets core.name wrote (λ h s r. answerOf r ≡ writeOf 7 h s)
-    (λ h s after r. wroteWith after r ≡ writeOf 7 h s) (λ h s r e. e) 𝓤 H (𝓖 .A))
+    (λ h s next r. wroteWith next r ≡ writeOf 7 h s) (λ h s r e. e) 𝓤 H (𝓖 .A))

@@ -17,18 +17,23 @@ room-left-requires c κs =
 
 returns-2 : tie.Need-returns-2
 returns-2 c =
-    let a = c .before .before .before .before .before .args in
-    write-long (a .self) (now (a .«data»)) _ (c .before .before .before .is-sound .ensures) (c .before .before .if1 .left) _ (c .before .room-left .ensures) (c .if2 .taken)
+    let ok = c .before .before in
+    let a = ok .before .before .before .args in
+    write-long (a .self) (now (a .«data»)) _ (ok .before .is-sound .ensures) (ok .if1 .left) _ (c .before .room-left .ensures) (c .if2 .taken)
 
 with-bytes-requires : tie.Need-with-bytes-requires
 with-bytes-requires c κs =
-    let a = c .before .before .before .before .before .args in
-    has-room (a .self) (now (a .«data»)) _ (c .before .before .before .is-sound .ensures) (c .before .before .if1 .left) _ (c .before .room-left .ensures) (c .if2 .left)
+    let ok = c .before .before in
+    let a = ok .before .before .before .args in
+    has-room (a .self) (now (a .«data»)) _ (ok .before .is-sound .ensures) (ok .if1 .left) _ (c .before .room-left .ensures) (c .if2 .left)
 
 returns-3 : tie.Need-returns-3
 returns-3 c =
-    let a = c .before .before .before .before .before .before .args in
-    write-took (a .self) (now (a .«data»)) _ (c .before .before .before .before .is-sound .ensures) (c .before .before .before .if1 .left) _ (c .before .before .room-left .ensures) (c .before .if2 .left) (c .with-bytes .ensures)
+    let room = c .before in
+    let ok = room .before .before in
+    let a = ok .before .before .before .args in
+    write-took (a .self) (now (a .«data»)) _ (ok .before .is-sound .ensures) (ok .if1 .left) _ (room .before .room-left .ensures) (room .if2 .left)
+    (c .with-bytes .ensures)
 
 pub write-spec : {M : Type 1} → statement M
 write-spec =
