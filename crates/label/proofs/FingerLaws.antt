@@ -1,11 +1,11 @@
 -- The fingerprint's values one after another through the stream: demand 3 makes them one message. Assumes nothing.
-use Prim.Native.Nat.{ℕ, _+_, _≤_, _<_}
-use mathlib.Core.Path.{_≡_, refl, sym, _∙_, ap}
+use Prim.Native.Nat.{ℕ, _+_, _≤_}
+use mathlib.Core.Path.{_≡_, sym, _∙_, ap}
 use mathlib.Core.Bool.{true, false}
 use mathlib.Core.List.{List, [], _++_}
 use native.Mathlib.Omega.{arith}
 use native.Mathlib.Decide.{decLe}
-use lib.ListN.{length, take, drop, length-take, length-drop, length-append}
+use lib.ListN.{length, length-take, length-drop, length-append}
 use Rattle.rapidhash.specs.Hash.{chunks, hashOf}
 use Rattle.label.specs.Numbers.{Told, toldReading}
 use Rattle.label.specs.Label.{badAt, walkOf, withTag, readOf, valueOf, hashedOf}

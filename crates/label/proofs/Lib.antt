@@ -13,6 +13,8 @@ pub mod Refusals
 pub mod Written
 pub mod GoodExactly
 pub mod InOrder
+pub mod Arriving
+pub mod CutShort
 pub mod Finds
 pub mod Demand1
 pub mod WorkedByHand

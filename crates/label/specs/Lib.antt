@@ -2,4 +2,5 @@ pub mod Label
 pub mod Numbers
 pub mod Rows
 pub mod Good
+pub mod Arrived
 pub mod Worked

@@ -1,5 +1,5 @@
 -- The field that was found. Assumes nothing.
-use mathlib.Core.Path.{_∙_, ap}
+use mathlib.Core.Path.{ap}
 use borrow.Author.Needs.{needs}
 use Rattle.label.specs.Label.{soughtOf}
 use Rattle.label.specs.declared.reading.Sought.{Sought}
