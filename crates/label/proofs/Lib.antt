@@ -16,5 +16,6 @@ pub mod InOrder
 pub mod Arriving
 pub mod CutShort
 pub mod Finds
+pub mod ByNumber
 pub mod Demand1
 pub mod WorkedByHand

@@ -80,7 +80,7 @@ module _ (s : List ℕ) where
       go (yes m) (Refused q) st later = fault r m st
 
   -- so what reading answers is in a row
-  read-rows : Reads s (readOf s)
+  pub read-rows : Reads s (readOf s)
   read-rows = go (decLe (length s) 8192) (ends (length s) (omega arith) start)
     where
       is : {r : Reading} → Reads s r → Reads s (readOf s)
