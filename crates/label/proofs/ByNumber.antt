@@ -19,13 +19,29 @@ use Rattle.label.specs.declared.field.Field.{Field}
 use Rattle.label.specs.declared.field.Lookup.{Lookup}
 use Rattle.label.specs.declared.field.Lookup.the-variants.{Refused}
 use Rattle.label.specs.declared.reading.Reading.{Reading}
-use Rattle.label.specs.declared.reading.Reading.the-variants.{Good}
+use Rattle.label.specs.declared.reading.Reading.the-variants.{Good, Refused as Bad}
 use Rattle.label.proofs.Lookups.{reading-apart}
 use Rattle.label.proofs.ReadingLaws.{lacks-first, as-second}
 use Rattle.label.proofs.Standing.{stands-read, read-stands}
 use Rattle.label.proofs.Refusals.{exactly, read-rows}
 use Rattle.label.proofs.Finds.{exactly-found}
 use Rattle.label.proofs.reading.read.Reads as read
+
+-- a number is that of one refusal only
+same-why : (a b : Why) → numberOf a ≡ numberOf b → a ≡ b
+same-why a b e =
+    let k = reading-apart (badAt a 0) (badAt b 0) (rw e) in
+    let r : _≡_ {A = Refusal} (record { why = a; place = 0 }) (record { why = b; place = 0 }) = cc in
+    ap (λ (q : Refusal). q .why) r
+
+-- and 0 is that of none
+never-zero : (why : Why) → numberOf why ≡ 0 → ⊥
+never-zero why e = let k = reading-apart (badAt why 0) Good (rw e) in let z : _≡_ {A = ℕ} 0 1 = cc in omega arith
+
+-- a reading of number 0 is good
+pub good-by-zero : (r : Reading) → toldReading r .number ≡ 0 → r ≡ Good
+good-by-zero Good e = refl
+good-by-zero (Bad r) e = absurd (never-zero (r .why) e)
 
 module _ (s : List ℕ) where
   -- a refusal at a place, as reading gives it
@@ -124,42 +140,28 @@ module _ (s : List ℕ) where
   up-to-ten (row9 f) = omega arith
   up-to-ten (row10 fs t n) = omega arith
 
-  -- a good record is in its row
-  good-row : {place : ℕ} → Row s 0 place → Reads s Good
-  good-row (row0 fs t o p) = good (t .short) (t .led) o p
-
 -- the same of the code: of any answer that the contract of `read` allows
 pub read-by-number : (κ : Lfts 1) (d : RefT (List ℕ)) (r : Reading) (x : _) → read.Post κ (d, tt) r x
     → (number : ℕ) → Exactly (toldReading r .number ≡ number) (Row (now d) number (toldReading r .place))
 read-by-number κ d r x p number = rw (reading-apart r (readOf (now d)) p) (by-number (now d) number)
 
 module _ (s tags : List ℕ) where
+  -- what finding answers where a good record has no listed tag
+  none-listed : toldReading (readOf s) .number ≡ 0 → NoneListed (walkOf s .fields) tags → findOf s tags ≡ notListed
+  none-listed e n = exactly-found s tags notListed .0 (noneThere (exactly s Good .1 (good-by-zero (readOf s) e)) n)
+
   -- finding gives 11 exactly when the record is good and no listed tag is there
   pub eleven-exactly : Exactly (toldLookup (findOf s tags) .number ≡ 11) ((toldReading (readOf s) .number ≡ 0) × NoneListed (walkOf s .fields) tags)
-  eleven-exactly = (λ e. go (exactly-found s tags (findOf s tags) .1 refl) e, λ k. rw (none (k .0) (k .1)))
+  eleven-exactly = (λ e. go (exactly-found s tags (findOf s tags) .1 refl) e, λ k. rw (none-listed (k .0) (k .1)))
     where
       go : {l : Lookup} → Finds s tags l → toldLookup l .number ≡ 11 → (toldReading (readOf s) .number ≡ 0) × NoneListed (walkOf s .fields) tags
       go (badRecord h) e = let n = up-to-ten s (in-row s h) in absurd (omega arith)
       go (noneThere h n) e = (rw (exactly s Good .0 h), n)
       go (found earlier t later h d n w) e = absurd (omega arith)
 
-      none : toldReading (readOf s) .number ≡ 0 → NoneListed (walkOf s .fields) tags → findOf s tags ≡ notListed
-      none e n = exactly-found s tags notListed .0 (noneThere (good-row s (by-number s 0 .0 e)) n)
-
-  -- with tag 0 and place 0
+  -- and with it tag 0 and place 0
   pub eleven-told : toldLookup (findOf s tags) .number ≡ 11 → toldLookup (findOf s tags) ≡ toldLookup notListed
-  eleven-told e = let k = eleven-exactly .0 e in rw (exactly-found s tags notListed .0 (noneThere (good-row s (by-number s 0 .0 (k .0))) (k .1)))
-
--- a number is that of one refusal only
-same-why : (a b : Why) → numberOf a ≡ numberOf b → a ≡ b
-same-why a b e =
-    let k = reading-apart (badAt a 0) (badAt b 0) (rw e) in
-    let r : _≡_ {A = Refusal} (record { why = a; place = 0 }) (record { why = b; place = 0 }) = cc in
-    ap (λ (q : Refusal). q .why) r
-
--- and 0 is that of none
-never-zero : (why : Why) → numberOf why ≡ 0 → ⊥
-never-zero why e = let k = reading-apart (badAt why 0) Good (rw e) in let z : _≡_ {A = ℕ} 0 1 = cc in omega arith
+  eleven-told e = let k = eleven-exactly .0 e in rw (none-listed (k .0) (k .1))
 
 module _ (s : List ℕ) (at before : ℕ) where
   -- what stands at a place is refused with the number of a refusal exactly when its row says

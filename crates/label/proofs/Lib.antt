@@ -17,5 +17,6 @@ pub mod Arriving
 pub mod CutShort
 pub mod Finds
 pub mod ByNumber
+pub mod InParts
 pub mod Demand1
 pub mod WorkedByHand

@@ -3,4 +3,5 @@ pub mod Numbers
 pub mod Rows
 pub mod Good
 pub mod Arrived
+pub mod Printing
 pub mod Worked
