@@ -1,6 +1,8 @@
 -- One law for each answer, in the order of the refusals. Assumes nothing.
 use mathlib.Core.Path.{sym, _∙_}
 use native.Mathlib.Omega.{arith}
+use lib.Dec.{ltb}
+use lib.ListN.{getD}
 use borrow.Author.Tests.{not-true, not-false}
 use Rattle.label.proofs.HeaderLaws.{
   field-no-tag,
@@ -28,8 +30,9 @@ returns-2 c =
     let k = c .before .before .before in
     let a = k .before .before .before .before .before .before .args in
     let row = k .before .before .lengths-of .ensures in
-    c .refused-at2 .ensures ∙ sym (field-not-above _ _ _ (known-as (a .«record» .now) (a .place) row (not-false _
-    (c .before .before .if1 .left))) (not-true _ (c .before .if2 .taken)))
+    let known = known-as (a .«record» .now) (a .place) row (not-false _ (c .before .before .if1 .left)) in
+    let not-above = not-true (ltb (a .before) (getD (a .«record» .now) (a .place) 0)) (c .before .if2 .taken) in
+    c .refused-at2 .ensures ∙ sym (field-not-above (a .«record» .now) (a .place) (a .before) known not-above)
 
 returns-3 : tie.Need-returns-3
 returns-3 c =
