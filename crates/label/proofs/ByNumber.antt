@@ -2,13 +2,15 @@
 use Prim.Native.Nat.{ℕ, _≤_}
 use mathlib.Core.Path.{_≡_, refl, sym, _∙_, ap, subst}
 use mathlib.Core.Bool.{Bool, true, false}
-use mathlib.Core.List.{List}
+use mathlib.Core.List.{List, []}
 use native.Mathlib.Omega.{arith}
 use contract.Lifetimes.{Lfts}
 use denote.Ref.{RefT, now}
 use lib.ListN.{length}
-use Rattle.label.specs.Label.{refusedAt, badAt, headerOf, walkOf, notListed, withTag, isField, complete, readOf, findOf}
-use Rattle.label.specs.Numbers.{numberOf, toldReading, toldLookup}
+use Rattle.secrets.specs.declared.v3.seed.RapidSecrets.{RapidSecrets}
+use Rattle.rapidhash.specs.Hash.{hashOf}
+use Rattle.label.specs.Label.{refusedAt, badAt, headerOf, walkOf, notListed, withTag, isField, complete, readOf, firstListed, whenGood, findOf, valueOf, hashedOf, fingerprintOf}
+use Rattle.label.specs.Numbers.{numberOf, toldReading, toldLookup, toldPrinted}
 use Rattle.label.specs.Rows.{Stands, headerCut, noSuchTag, notAbove, lengthShort, lengthLong, valueCut, field}
 use Rattle.label.specs.Rows.{Reads, overlong, unreadable, missingFirst, missingSecond, good, Faulty, Through}
 use Rattle.label.specs.Rows.{Row, row0, row5, row6, row7, row8, row9, row10, Exactly, NoneListed, Finds, badRecord, noneThere, found}
@@ -20,6 +22,7 @@ use Rattle.label.specs.declared.field.Lookup.{Lookup}
 use Rattle.label.specs.declared.field.Lookup.the-variants.{Refused}
 use Rattle.label.specs.declared.reading.Reading.{Reading}
 use Rattle.label.specs.declared.reading.Reading.the-variants.{Good, Refused as Bad}
+use Rattle.label.specs.declared.fingerprint.Printed.the-variants.{Print, Refused as NoPrint}
 use Rattle.label.proofs.Lookups.{reading-apart}
 use Rattle.label.proofs.ReadingLaws.{lacks-first, as-second}
 use Rattle.label.proofs.Standing.{stands-read, read-stands}
@@ -144,6 +147,20 @@ module _ (s : List ℕ) where
 pub read-by-number : (κ : Lfts 1) (d : RefT (List ℕ)) (r : Reading) (x : _) → read.Post κ (d, tt) r x
     → (number : ℕ) → Exactly (toldReading r .number ≡ number) (Row (now d) number (toldReading r .place))
 read-by-number κ d r x p number = rw (reading-apart r (readOf (now d)) p) (by-number (now d) number)
+
+-- a record that is refused is refused alike by reading, finding and the fingerprint: one number and place, tag 0, fingerprint 0 and no bytes
+pub refused-alike : (x : RapidSecrets) (s tags : List ℕ) → (toldReading (readOf s) .number ≡ 0 → ⊥)
+    → (toldLookup (findOf s tags) ≡ toldReading (readOf s)) × (toldPrinted (fingerprintOf x s) ≡ toldReading (readOf s))
+    × (valueOf s (findOf s tags) ≡ [])
+unfolding findOf fingerprintOf whenGood valueOf
+refused-alike x s tags = go (readOf s)
+  where
+    go : (r : Reading) → (toldReading r .number ≡ 0 → ⊥)
+        → (toldLookup (whenGood r (firstListed (walkOf s .fields) tags) Refused) ≡ toldReading r)
+        × (toldPrinted (whenGood r (Print (hashOf 7 true false x (hashedOf s))) NoPrint) ≡ toldReading r)
+        × (valueOf s (whenGood r (firstListed (walkOf s .fields) tags) Refused) ≡ [])
+    go Good k = absurd (k refl)
+    go (Bad r) k = (refl, refl, refl)
 
 module _ (s tags : List ℕ) where
   -- what finding answers where a good record has no listed tag

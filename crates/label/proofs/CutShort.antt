@@ -131,24 +131,33 @@ module _ (s : List ℕ) (ps : List Plain) (g : GoodRecord s ps) (n : ℕ) (h : n
       → toldReading (readOf (take n s)) .number ≡ 0
   done-whole earlier later e m one two = rw (arrived-read (whole earlier later e m one two))
 
-  -- the same of the code: what the contract of `read` allows for the bytes that arrived
-  pub read-answers : (κ : Lfts 1) (d : RefT (List ℕ)) (r : Reading) (x : _) → now d ≡ take n s → read.Post κ (d, tt) r x → {q : Reading} → Arrives ps n q
-      → r ≡ q
-  read-answers κ d r x e p {q} a = reading-apart r (readOf (take n s)) (rw e at p) ∙ arrived-read a
-
-  -- and of `fingerprint`: the same refusal, with fingerprint 0
-  pub no-fingerprint : (κ : Lfts 1) (d : RefT (List ℕ)) (secrets : RapidSecrets) (r : Printed) (x : _) → now d ≡ take n s
-      → fingerprint.Post κ (d, (secrets, tt)) r x → {q : Refusal} → Arrives ps n (Bad q) → toldPrinted r ≡ toldRefusal q
+  -- its fingerprint: the same refusal, with fingerprint 0
+  pub print-refused : (x : RapidSecrets) {q : Refusal} → Arrives ps n (Bad q) → toldPrinted (fingerprintOf x (take n s)) ≡ toldRefusal q
   unfolding fingerprintOf whenGood
-  no-fingerprint κ d secrets r x e p a = (rw e at p) ∙ rw (arrived-read a)
+  print-refused x a = rw (arrived-read a)
 
-  -- or the hash of the values that arrived whole
-  pub fingerprint-of-whole : (κ : Lfts 1) (d : RefT (List ℕ)) (secrets : RapidSecrets) (r : Printed) (x : _) → now d ≡ take n s
-      → fingerprint.Post κ (d, (secrets, tt)) r x → (earlier later : List Plain) → ps ≡ earlier ++ later → n ≡ length (laidOut earlier) → Present 1 earlier
-      → Present 2 earlier → r ≡ Print (hashOf 7 true false secrets (valuesTo 4 earlier))
-  fingerprint-of-whole κ d secrets r x e p earlier later f m one two =
-      printed-apart r (fingerprintOf secrets (take n s)) (rw e at p)
-      ∙ print-in-order secrets (take n s) earlier (whole-is-good earlier later f m one two)
+  -- or the hash of the values that arrived
+  pub print-whole : (x : RapidSecrets) (earlier later : List Plain) → ps ≡ earlier ++ later → n ≡ length (laidOut earlier) → Present 1 earlier
+      → Present 2 earlier → fingerprintOf x (take n s) ≡ Print (hashOf 7 true false x (valuesTo 4 earlier))
+  print-whole x earlier later e m one two = print-in-order x (take n s) earlier (whole-is-good earlier later e m one two)
+
+  -- the same of the code: of any answer that a contract allows for the bytes that arrived
+  module _ (κ : Lfts 1) (d : RefT (List ℕ)) (is : now d ≡ take n s) where
+    -- `read` answers as the cases say
+    pub read-answers : (r : Reading) (z : _) → read.Post κ (d, tt) r z → {q : Reading} → Arrives ps n q → r ≡ q
+    read-answers r z p a = reading-apart r (readOf (take n s)) (rw is at p) ∙ arrived-read a
+
+    -- `fingerprint` the same refusal, with fingerprint 0
+    pub no-fingerprint : (x : RapidSecrets) (r : Printed) (z : _) → fingerprint.Post κ (d, (x, tt)) r z → {q : Refusal} → Arrives ps n (Bad q)
+        → toldPrinted r ≡ toldRefusal q
+    no-fingerprint x r z p a = (rw is at p) ∙ print-refused x a
+
+    -- or the hash of the values that arrived
+    pub fingerprint-of-whole : (x : RapidSecrets) (r : Printed) (z : _) → fingerprint.Post κ (d, (x, tt)) r z → (earlier later : List Plain)
+        → ps ≡ earlier ++ later → n ≡ length (laidOut earlier) → Present 1 earlier → Present 2 earlier
+        → r ≡ Print (hashOf 7 true false x (valuesTo 4 earlier))
+    fingerprint-of-whole x r z p earlier later e m one two =
+        printed-apart r (fingerprintOf x (take n s)) (rw is at p) ∙ print-whole x earlier later e m one two
 
 -- a byte lost in the middle can go unnoticed: both are read as good, and their hashed bytes differ
 pub lost-in-the-middle : (toldReading (readOf sent) .number ≡ 0) × (toldReading (readOf sentLess) .number ≡ 0)
