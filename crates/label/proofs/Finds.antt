@@ -1,11 +1,10 @@
 -- Finding and the rows of the table say the same: refusal 11 exactly when no listed tag is there, else the first that is. Assumes nothing.
 use Prim.Native.Nat.{ℕ}
-use mathlib.Core.Path.{_≡_, refl, sym, _∙_, ap, subst}
-use mathlib.Core.Bool.{Bool, true, false}
+use mathlib.Core.Path.{_≡_, refl, _∙_, ap, subst}
+use mathlib.Core.Bool.{false}
 use mathlib.Core.List.{List, [], _∷_, _++_}
 use Rattle.label.specs.Label.{walkOf, notListed, withTag, isField, readOf, firstListed, whenGood, findOf}
-use Rattle.label.specs.Rows.{Reads, NoneListed, empty, absent, Finds, badRecord, noneThere, found}
-use Rattle.label.specs.declared.field.Refusal.{Refusal}
+use Rattle.label.specs.Rows.{NoneListed, empty, absent, Finds, badRecord, noneThere, found}
 use Rattle.label.specs.declared.field.Field.{Field}
 use Rattle.label.specs.declared.field.Lookup.{Lookup}
 use Rattle.label.specs.declared.field.Lookup.the-variants.{At, Refused}

@@ -1,11 +1,11 @@
 -- The fingerprint's values one after another through the stream: demand 3 makes them one message. Assumes nothing.
-use Prim.Native.Nat.{ℕ, _+_, _≤_, _<_}
-use mathlib.Core.Path.{_≡_, refl, sym, _∙_, ap}
+use Prim.Native.Nat.{ℕ, _+_, _≤_}
+use mathlib.Core.Path.{_≡_, sym, _∙_, ap}
 use mathlib.Core.Bool.{true, false}
 use mathlib.Core.List.{List, [], _++_}
 use native.Mathlib.Omega.{arith}
 use native.Mathlib.Decide.{decLe}
-use lib.ListN.{length, take, drop, length-take, length-drop, length-append}
+use lib.ListN.{length, length-take, length-drop, length-append}
 use Rattle.rapidhash.specs.Hash.{chunks, hashOf}
 use Rattle.label.specs.Numbers.{Told, toldReading}
 use Rattle.label.specs.Label.{badAt, walkOf, withTag, readOf, valueOf, hashedOf}
@@ -56,6 +56,14 @@ short-value : (s : List ℕ) (l : Lookup) → length s ≤ 8192 → length (valu
 unfolding valueOf
 short-value s l h = simp (length-take, length-drop) (omega arith)
 
+-- so the four values are no more than a stream takes
+pub hashed-short : (s : List ℕ) → length s ≤ 8192 → length (hashedOf s) ≤ most
+unfolding hashedOf
+hashed-short s short = simp length-append (omega (arith, value 1, value 2, value 3, value 4))
+  where
+    value : (t : ℕ) → length (valueOf s (withTag t (walkOf s .fields))) ≤ 8192
+    value t = short-value s (withTag t (walkOf s .fields)) short
+
 module _ (s : List ℕ) (x : RapidSecrets) (short : length s ≤ 8192) where
   -- the value of a tag
   abbrev value : ℕ → List ℕ
@@ -71,13 +79,7 @@ module _ (s : List ℕ) (x : RapidSecrets) (short : length s ≤ 8192) where
         finish
         ∙ rw (four, three, two, one, opening)
         (four-parts (record { secrets = x; avalanche = true; protected = false }) (value 1) (value 2) (value 3) (value 4)
-        (omega (
-          arith,
-          short-value s (withTag 1 (walkOf s .fields)) short,
-          short-value s (withTag 2 (walkOf s .fields)) short,
-          short-value s (withTag 3 (walkOf s .fields)) short,
-          short-value s (withTag 4 (walkOf s .fields)) short,
-        )))
+        (simp length-append at (hashed-short s short)))
 
     pub hash-finished : {v k : ℕ} → f ≡ Hash v k → v ≡ hashOf 7 true false x (hashedOf s)
     hash-finished e = ap (λ (d : Ended). d .hash) (ap ended (sym e) ∙ hashed)

@@ -13,6 +13,10 @@ pub mod Refusals
 pub mod Written
 pub mod GoodExactly
 pub mod InOrder
+pub mod Arriving
+pub mod CutShort
 pub mod Finds
+pub mod ByNumber
+pub mod InParts
 pub mod Demand1
 pub mod WorkedByHand

@@ -1,10 +1,10 @@
 -- A value as a part of the record that is lent. Assumes nothing.
 use Prim.Native.Nat.{ℕ, _+_, _-_, _≤_}
-use mathlib.Core.Path.{_≡_, ap, subst}
+use mathlib.Core.Path.{_≡_, subst}
 use mathlib.Core.List.{List}
 use native.Mathlib.Omega.{arith}
 use native.Mathlib.Nat.{add-comm}
-use denote.Ref.{RefT, ptr, now}
+use denote.Ref.{RefT, ptr}
 use borrow.Rule.Slice.PartAt.{slPart}
 use Rattle.label.specs.Numbers.{toldLookup}
 use Rattle.label.specs.Label.{startOf, lengthOf, valueOf, Part}

@@ -1,8 +1,8 @@
 -- Reading a record and the rows of the table say the same: each refusal is given exactly when its row and the order say. Assumes nothing.
 use Prim.Native.Nat.{ℕ, zero, suc, _+_, _≤_, _<_}
-use mathlib.Core.Path.{_≡_, refl, sym, _∙_, ap, subst}
+use mathlib.Core.Path.{_≡_, refl, _∙_, ap, subst}
 use mathlib.Core.Bool.{Bool, true, false}
-use mathlib.Core.List.{List, [], _∷_, _++_, append-assoc, append-nil}
+use mathlib.Core.List.{List, _++_, append-assoc, append-nil}
 use native.Mathlib.Omega.{arith}
 use native.Mathlib.Decide.{decLe, decLt}
 use lib.ListN.{length}
@@ -14,7 +14,7 @@ use Rattle.label.specs.declared.field.Field.{Field}
 use Rattle.label.specs.declared.field.Lookup.{Lookup}
 use Rattle.label.specs.declared.field.Lookup.the-variants.{At, Refused}
 use Rattle.label.specs.declared.reading.Reading.{Reading}
-use Rattle.label.specs.declared.reading.Reading.the-variants.{Good, Refused as Bad}
+use Rattle.label.specs.declared.reading.Reading.the-variants.{Good}
 use Rattle.label.proofs.Standing.{stands-read, read-stands, standing}
 use Rattle.label.proofs.Walking.{rest, walk-is-rest, rest-done, rest-field, rest-refused}
 use Rattle.label.proofs.ReadingLaws.{read-too-long, read-bad, read-missing, read-good, lacks-first, as-second}
@@ -80,7 +80,7 @@ module _ (s : List ℕ) where
       go (yes m) (Refused q) st later = fault r m st
 
   -- so what reading answers is in a row
-  read-rows : Reads s (readOf s)
+  pub read-rows : Reads s (readOf s)
   read-rows = go (decLe (length s) 8192) (ends (length s) (omega arith) start)
     where
       is : {r : Reading} → Reads s r → Reads s (readOf s)

@@ -1,21 +1,23 @@
 -- From field to field: the number of fields looked for does not matter once it is enough, so a walk goes on from its place alone.
 -- Assumes nothing.
-use Prim.Native.Nat.{ℕ, zero, suc, _+_, _-_, _≤_, _<_}
-use mathlib.Core.Path.{_≡_, refl, sym, _∙_, ap}
-use mathlib.Core.Bool.{true, false}
+use Prim.Native.Nat.{ℕ, zero, suc, _+_, _≤_, _<_}
+use mathlib.Core.Path.{_≡_, refl, sym, _∙_}
+use mathlib.Core.Bool.{false}
 use mathlib.Core.List.{List, [], _∷_}
 use native.Mathlib.Omega.{arith}
 use native.Mathlib.Decide.{decLt}
+use lib.Dec.{ltb}
 use lib.ListN.{length}
 use borrow.Author.Tests.{lt-ltb, le-ltb, eq-eqb, ne-eqb}
+use Rattle.rapidhash.proofs.Tests.{either}
 use Rattle.label.specs.Numbers.{toldLookup}
-use Rattle.label.specs.Label.{headerOf, Walked, noMore, onward, walkFrom, walkOf, notListed, withTag}
+use Rattle.label.specs.Label.{headerOf, Walked, noMore, onward, walkFrom, walkOf, notListed, withTag, isField, soughtOf}
 use Rattle.label.specs.declared.field.Refusal.{Refusal}
 use Rattle.label.specs.declared.field.Field.{Field}
 use Rattle.label.specs.declared.field.Lookup.{Lookup}
 use Rattle.label.specs.declared.field.Lookup.the-variants.{At, Refused}
 use Rattle.label.specs.declared.reading.Reading.{Reading}
-use Rattle.label.specs.declared.reading.Reading.the-variants.{Refused as Bad}
+use Rattle.label.specs.declared.reading.Reading.the-variants.{Good, Refused as Bad}
 use Rattle.label.proofs.Lookups.{lookup-apart}
 use Rattle.label.proofs.Standing.{Standing, field-stands, standing}
 
@@ -89,25 +91,43 @@ module _ (s : List ℕ) where
 pub looked : {l m n : Lookup} → toldLookup l ≡ toldLookup n → l ≡ m → n ≡ m
 looked {l} {m} {n} e k = sym (lookup-apart l n e) ∙ k
 
-module _ (s : List ℕ) (at before : ℕ) {f : Field} (more : at < length s) (e : headerOf s at before ≡ At f) where
-  -- how the fields end after a field, and what it holds for a tag
-  pub ends-after : rest s at before .ends ≡ rest s (f .start + f .length) (f .tag) .ends
-  ends-after = ap (λ (w : Walked). w .ends) (rest-field s at before f more e)
+-- looking for a tag: where its field stands, past another field, and where the fields end
+module _ (s : List ℕ) (at before : ℕ) {f : Field} (more : at < length s) (e : headerOf s at before ≡ At f) (t : ℕ) where
+  pub sought-here : f .tag ≡ t → soughtOf t (rest s at before) ≡ record { found = At f; ends = Good }
+  unfolding soughtOf withTag
+  sought-here h = rw (rest-field s at before f more e, eq-eqb (f .tag) t h)
 
-  pub tag-here : (t : ℕ) → f .tag ≡ t → withTag t (rest s at before .fields) ≡ At f
-  unfolding withTag
-  tag-here t h = rw (rest-field s at before f more e, eq-eqb (f .tag) t h)
+  pub sought-after : (f .tag ≡ t → ⊥) → soughtOf t (rest s at before) ≡ soughtOf t (rest s (f .start + f .length) (f .tag))
+  unfolding soughtOf withTag
+  sought-after h = rw (rest-field s at before f more e, ne-eqb (f .tag) t h)
 
-  pub tag-after : (t : ℕ) → (f .tag ≡ t → ⊥) → withTag t (rest s at before .fields) ≡ withTag t (rest s (f .start + f .length) (f .tag) .fields)
-  unfolding withTag
-  tag-after t h = rw (rest-field s at before f more e, ne-eqb (f .tag) t h)
+pub sought-none : (t : ℕ) {w : Walked} (r : Reading) → w ≡ record { fields = []; ends = r } → soughtOf t w ≡ record { found = notListed; ends = r }
+unfolding soughtOf withTag
+sought-none t r e = rw e
 
 -- and of a field that is found so
 pub met : (s : List ℕ) (at before : ℕ) {l : Lookup} {f : Field} → toldLookup l ≡ toldLookup (headerOf s at before) → l ≡ At f
     → Standing s at before f
 met s at before e k = standing s at before (field-stands s at before (looked e k))
 
--- where the fields end no tag is there
-pub tag-none : (t : ℕ) {w : Walked} (r : Reading) → w ≡ record { fields = []; ends = r } → withTag t (w .fields) ≡ notListed
-unfolding withTag
-tag-none t r e = rw e
+-- no field has tag 0, so looking for it goes through all of them
+module _ (s : List ℕ) where
+  none-onward : (at before : ℕ) (next : Field → Walked) → ((f : Field) → isField (withTag 0 (next f .fields)) ≡ false) → (l : Lookup)
+      → headerOf s at before ≡ l → isField (withTag 0 (onward next l .fields)) ≡ false
+  unfolding onward withTag
+  none-onward at before next later (At f) e =
+      let a = standing s at before (field-stands s at before e) .above in
+      rw (ne-eqb (f .tag) 0 (λ z. omega arith)) (later f)
+  none-onward at before next later (Refused r) e = refl
+
+  none-zero : (n at before : ℕ) → isField (withTag 0 (walkFrom n s at before .fields)) ≡ false
+  unfolding walkFrom withTag
+  none-zero zero at before = refl
+  none-zero (suc n) at before =
+      either (λ (w : Walked). isField (withTag 0 (w .fields)) ≡ false) (ltb at (length s))
+      (none-onward at before _ (λ f. none-zero n (f .start + f .length) (f .tag)) (headerOf s at before) refl)
+      refl
+
+  pub all-passed : soughtOf 0 (walkOf s) .ends ≡ walkOf s .ends
+  unfolding soughtOf walkOf
+  all-passed = rw (none-zero (length s) 0 0)

@@ -21,10 +21,16 @@ use Rattle.rapidhash.specs.Hash.{
   lastOf,
   hashOf,
 }
+use Rattle.stream.specs.Stream.{opened, slide, mixedIn, withByte, push, feed}
+use Rattle.stream.specs.State.{view, hold, openingOf, sound, taken, writeOf, finishOf}
 use Rattle.label.specs.Label.{table, fieldOf, headerOf, onward, walkFrom, walkOf, withTag, readOf, valueOf, hashedOf}
 use Rattle.label.specs.Worked.{worked, W1, W2, W3, W4, W5, W6, W7, W8, W9, W10, W11, W12}
 
 -- every example of the table is what the rules compute
 pub worked-by-hand : every worked ≡ true
-unfolding allAre worked W1 W2 W3 W4 W5 W6 W7 W8 W9 W10 W11 W12 table fieldOf headerOf onward walkFrom walkOf withTag readOf valueOf hashedOf word low high mum mix defaults mend repair stirred premix chain seedOf chunks mixPair chunkStep lanesAfter mixedOf joined tail tailEnds reachedOf longEnds endsOf avalanched lastOf hashOf
+unfolding worked W1 W2 W3 W4 W5 W6 W7 W8 W9 W10 W11 W12
+    allAre low high mum mix defaults mend repair stirred premix chain seedOf
+    word chunks mixPair chunkStep lanesAfter mixedOf joined tail tailEnds reachedOf longEnds endsOf avalanched lastOf hashOf
+    opened slide mixedIn withByte push feed view hold openingOf sound taken writeOf finishOf
+    table fieldOf headerOf onward walkFrom walkOf withTag readOf valueOf hashedOf
 worked-by-hand = refl

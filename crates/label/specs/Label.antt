@@ -20,6 +20,7 @@ use Rattle.label.specs.declared.field.Lookup.the-variants.{At, Refused}
 use Rattle.label.specs.declared.field.Lengths.{Lengths}
 use Rattle.label.specs.declared.reading.Reading.{Reading}
 use Rattle.label.specs.declared.reading.Reading.the-variants.{Good, Refused as Bad}
+use Rattle.label.specs.declared.reading.Sought.{Sought}
 use Rattle.label.specs.declared.fingerprint.Printed.{Printed}
 use Rattle.label.specs.declared.fingerprint.Printed.the-variants.{Print, Refused as NoPrint}
 
@@ -119,6 +120,10 @@ withTag t (f ∷ fs) = pick (eqb (f .tag) t) (At f) (withTag t fs)
 abbrev pub isField : Lookup → Bool
 isField (At f) = true
 isField (Refused r) = false
+
+-- what comes of looking for a tag: the field, and how the fields passed on the way to it end
+unfoldable pub soughtOf : ℕ → Walked → Sought
+soughtOf t w = let l = withTag t (w .fields) in record { found = l; ends = pick (isField l) Good (w .ends) }
 
 -- whether the required fields are there
 abbrev pub complete : List Field → Bool

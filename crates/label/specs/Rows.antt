@@ -5,7 +5,8 @@ use mathlib.Core.Path.{_≡_}
 use mathlib.Core.Bool.{true, false}
 use mathlib.Core.List.{List, [], _∷_, _++_}
 use lib.ListN.{length}
-use Rattle.label.specs.Label.{tagAt, sizeAt, rowAt, refusedAt, badAt, walkOf, notListed, withTag, isField}
+use Rattle.label.specs.Label.{tagAt, sizeAt, rowAt, refusedAt, badAt, walkOf, notListed, withTag, isField, complete}
+use Rattle.label.specs.declared.field.Why.{Why}
 use Rattle.label.specs.declared.field.Why.the-variants.{TooLong, Cut, NoSuchTag, NotAbove, BadLength, Missing}
 use Rattle.label.specs.declared.field.Refusal.{Refusal}
 use Rattle.label.specs.declared.field.Field.{Field}
@@ -49,6 +50,36 @@ pub data Reads (s : List ℕ) : Reading → Type 0 where
       → Reads s (badAt Missing (length s))
   good : {before : ℕ} {fs : List Field} → length s ≤ 8192 → LedTo s (length s) before fs → isField (withTag 1 fs) ≡ true
       → isField (withTag 2 fs) ≡ true → Reads s Good
+
+-- a place before the end of a record that is not too long: fields lead to it, and what stands there is refused
+pub record Faulty (s : List ℕ) (why : Why) (at : ℕ) : Type 0 where
+  pub before : ℕ
+  pub fields : List Field
+  pub short : length s ≤ 8192
+  pub led : LedTo s at before fields
+  pub more : at < length s
+  pub stands : Stands s at before (refusedAt why at)
+
+-- a record that is not too long and has fields up to its end
+pub record Through (s : List ℕ) (fs : List Field) : Type 0 where
+  pub before : ℕ
+  pub short : length s ≤ 8192
+  pub led : LedTo s (length s) before fs
+
+-- the rows by their numbers, with the place. 0: fields up to the end, and tags 1 and 2 are there. 5: over 8,192 bytes. 6 to 9: at the first place
+-- where no field stands, by what is wrong there. 10: fields up to the end, and tag 1 is missing, or tag 2, or both
+pub data Row (s : List ℕ) : ℕ → ℕ → Type 0 where
+  row0 : (fs : List Field) → Through s fs → isField (withTag 1 fs) ≡ true → isField (withTag 2 fs) ≡ true → Row s 0 0
+  row5 : 8192 < length s → Row s 5 0
+  row6 : {at : ℕ} → Faulty s Cut at → Row s 6 at
+  row7 : {at : ℕ} → Faulty s NoSuchTag at → Row s 7 at
+  row8 : {at : ℕ} → Faulty s NotAbove at → Row s 8 at
+  row9 : {at : ℕ} → Faulty s BadLength at → Row s 9 at
+  row10 : (fs : List Field) → Through s fs → complete fs ≡ false → Row s 10 (length s)
+
+-- the one exactly when the other
+abbrev pub Exactly : Type 0 → Type 0 → Type 0
+Exactly A B = (A → B) × (B → A)
 
 -- no tag of a list is among the fields
 pub data NoneListed (fs : List Field) : List ℕ → Type 0 where

@@ -9,6 +9,7 @@ use Rattle.secrets.specs.Mix.{mum, mix}
 use Rattle.secrets.specs.Secrets.{repair, seedOf}
 use Rattle.rapidhash.specs.Hash.{chunks, endsOf, hashOf}
 use Rattle.secrets.specs.declared.v3.seed.RapidSecrets.{RapidSecrets}
+use Rattle.stream.specs.State.{openingOf, writeOf, finishOf}
 use Rattle.label.specs.Label.{readOf, hashedOf}
 use Rattle.label.specs.Numbers.{toldReading}
 
@@ -17,8 +18,8 @@ abbrev pub zeros : RapidSecrets
 zeros = record { seed = 0; secrets = replicate 7 0 }
 
 -- the full hash with them, with avalanche and protected as given
-abbrev pub plain : Bool → Bool → List ℕ → ℕ
-plain av p s = hashOf 7 av p zeros s
+abbrev pub zerosHash : Bool → Bool → List ℕ → ℕ
+zerosHash av p s = hashOf 7 av p zeros s
 
 -- the number of which W9 says that it stays itself
 abbrev pub fixed : ℕ
@@ -46,32 +47,41 @@ W4 = let e = endsOf 7 false zeros (1 ∷ 2 ∷ 3 ∷ []) in eqb (e .a) (2 ^ 45 +
 
 -- W5: the empty message, with avalanche, plain and protected
 unfoldable pub W5 : List Bool
-W5 = eqb (plain true false []) 0 ∷ eqb (plain true true []) 0xaaaaaaaaaaaaaaaa ∷ []
+W5 = eqb (zerosHash true false []) 0 ∷ eqb (zerosHash true true []) 0xaaaaaaaaaaaaaaaa ∷ []
 
 -- W6: the byte 01, without and with avalanche
 unfoldable pub W6 : List Bool
-W6 = eqb (plain false false (1 ∷ [])) 0x0000200000000001 ∷ eqb (plain true false (1 ∷ [])) 0xaaaa8aaaaaaaaaab ∷ []
+W6 = eqb (zerosHash false false (1 ∷ [])) 0x0000200000000001 ∷ eqb (zerosHash true false (1 ∷ [])) 0xaaaa8aaaaaaaaaab ∷ []
 
 -- W7: four zero bytes, without and with avalanche
 unfoldable pub W7 : List Bool
-W7 = eqb (plain false false (replicate 4 0)) 0 ∷ eqb (plain true false (replicate 4 0)) 0xaaaaaaaaaaaaaaaa ∷ []
+W7 = eqb (zerosHash false false (replicate 4 0)) 0 ∷ eqb (zerosHash true false (replicate 4 0)) 0xaaaaaaaaaaaaaaaa ∷ []
 
 -- W8: 17 zero bytes, without and with avalanche
 unfoldable pub W8 : List Bool
-W8 = eqb (plain false false (replicate 17 0)) 0 ∷ eqb (plain true false (replicate 17 0)) 0x5555555555555541 ∷ []
+W8 = eqb (zerosHash false false (replicate 17 0)) 0 ∷ eqb (zerosHash true false (replicate 17 0)) 0x5555555555555541 ∷ []
 
 -- W9: the seed and all seven secrets that `seed` makes of one number are that number
 unfoldable pub W9 : List Bool
-W9 = eqb (seedOf fixed .seed) fixed ∷ allAre fixed (seedOf fixed .secrets) ∷ []
+W9 =
+    eqb (seedOf fixed .seed) fixed ∷ eqb (length (seedOf fixed .secrets)) 7 ∷ allAre fixed (seedOf fixed .secrets) ∷ []
 
 -- W10: repair of 0
 unfoldable pub W10 : List Bool
 W10 = eqb (repair 0) 0x8000000080000001 ∷ []
 
+-- the count that finish answers after n zero bytes were written to an opening
+abbrev pub countAfter : ℕ → ℕ
+countAfter n =
+    finishOf 7 (writeOf 7 (openingOf (record { secrets = zeros; avalanche = true; protected = false })) (replicate n 0) .state) .count
+
+-- whether n bytes count k chunks: by the rule, and by the stream
+abbrev pub counts : ℕ → ℕ → List Bool
+counts n k = eqb (chunks 112 n) k ∷ eqb (countAfter n) k ∷ []
+
 -- W11: chunk counts at 0, 112, 113, 224 and 225 bytes
 unfoldable pub W11 : List Bool
-W11 =
-    eqb (chunks 112 0) 0 ∷ eqb (chunks 112 112) 0 ∷ eqb (chunks 112 113) 1 ∷ eqb (chunks 112 224) 1 ∷ eqb (chunks 112 225) 2 ∷ []
+W11 = counts 0 0 ++ counts 112 0 ++ counts 113 1 ++ counts 224 1 ++ counts 225 2
 
 -- whether reading a record gives a number and a place
 abbrev pub reads : List ℕ → ℕ → ℕ → Bool

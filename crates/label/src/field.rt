@@ -67,7 +67,7 @@ pub fn header(record: &[u8], at: usize, before: u8) -> Lookup
     ensures { λ r. ⌜ toldLookup r ≡ toldLookup (headerOf (now («record» .entry)) at before) ⌝ }
 {
     if left_from(record, at) < 3 {
-        refused(Why::Cut, at)
+        refused_at(Why::Cut, at)
     } else {
         field_at(record, at, before)
     }
@@ -121,16 +121,16 @@ fn field_at(record: &[u8], place: usize, before: u8) -> Lookup
     let fits = is_allowed(row, length);
     let whole = length <= left_from(record, place + 3);
     if !known {
-        return refused(Why::NoSuchTag, place);
+        return refused_at(Why::NoSuchTag, place);
     }
     if !above {
-        return refused(Why::NotAbove, place);
+        return refused_at(Why::NotAbove, place);
     }
     if !fits {
-        return refused(Why::BadLength, place);
+        return refused_at(Why::BadLength, place);
     }
     if !whole {
-        return refused(Why::Cut, place);
+        return refused_at(Why::Cut, place);
     }
     Lookup::At(Field {
         tag,
@@ -149,7 +149,7 @@ fn is_allowed(row: Lengths, length: usize) -> bool
     length <= row.most
 }
 
-fn refused(why: Why, place: usize) -> Lookup
+fn refused_at(why: Why, place: usize) -> Lookup
     ensures { λ r. ⌜ r ≡ refusedAt why place ⌝ }
 {
     Lookup::Refused(Refusal { why, place })

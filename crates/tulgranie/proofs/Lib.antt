@@ -1,2 +1,3 @@
+pub mod OfRecords
 pub mod Demand1
 pub mod OfTheCode

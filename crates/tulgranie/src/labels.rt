@@ -31,8 +31,8 @@ pub extern "C" fn tulgranie_read(record: &[u8]) -> Answer
 {
     let reading = read(record);
     match reading {
-        Reading::Good => plain(0, 0),
-        Reading::Refused(r) => refused(r),
+        Reading::Good => bare(0, 0),
+        Reading::Refused(r) => told(r),
     }
 }
 
@@ -51,7 +51,7 @@ pub extern "C" fn tulgranie_find<'a, 'b>(record: &'a [u8], tags: &'b [u8]) -> An
             length: f.length as u64,
             fingerprint: 0,
         },
-        Lookup::Refused(r) => refused(r),
+        Lookup::Refused(r) => told(r),
     }
 }
 
@@ -70,18 +70,20 @@ pub extern "C" fn tulgranie_fingerprint(record: &[u8], secrets: RapidSecrets) ->
             length: 0,
             fingerprint: hash,
         },
-        Printed::Refused(r) => refused(r),
+        Printed::Refused(r) => told(r),
     }
 }
 
-fn refused(r: Refusal) -> Answer
+// A refusal's number and place.
+fn told(r: Refusal) -> Answer
     ensures { λ a. ⌜ toldOf a ≡ toldRefusal r ⌝ }
 {
     let why = r.why;
-    plain(why.number(), r.place as u64)
+    bare(why.number(), r.place as u64)
 }
 
-fn plain(number: u64, place: u64) -> Answer
+// A number and a place, and nothing else.
+fn bare(number: u64, place: u64) -> Answer
     ensures { λ r. ⌜ toldOf r ≡ record { number = number; place = place; tag = 0; start = 0; length = 0; fingerprint = 0 } ⌝ }
 {
     Answer {

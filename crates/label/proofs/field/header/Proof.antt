@@ -8,7 +8,7 @@ use Rattle.label.proofs.field.header.Statement.{statement}
 use Rattle.label.proofs.field.header.Tie as tie
 
 returns : tie.Need-returns
-returns c = ap toldLookup (c .refused .ensures ∙ sym (header-cut _ _ _ (omega arith)))
+returns c = ap toldLookup (c .refused-at .ensures ∙ sym (header-cut _ _ _ (omega arith)))
 
 returns-2 : tie.Need-returns-2
 returns-2 c = ap toldLookup (c .field-at .ensures ∙ sym (headed _ _ _ (omega arith)))

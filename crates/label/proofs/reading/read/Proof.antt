@@ -10,7 +10,7 @@ use Rattle.label.proofs.reading.read.Statement.{statement}
 use Rattle.label.proofs.reading.read.Tie as tie
 
 returns : tie.Need-returns
-returns c = ap toldReading (c .refused .ensures ∙ sym (read-too-long _ (omega arith)))
+returns c = ap toldReading (c .bad-at .ensures ∙ sym (read-too-long _ (omega arith)))
 
 returns-2 : tie.Need-returns-2
 returns-2 c =
@@ -19,7 +19,7 @@ returns-2 c =
 
 returns-3 : tie.Need-returns-3
 returns-3 c =
-    ap toldReading (c .before .before .before .before .refused2 .ensures ∙ sym (read-missing _ (omega arith) (ap isGood (sym
+    ap toldReading (c .before .before .before .before .bad-at2 .ensures ∙ sym (read-missing _ (omega arith) (ap isGood (sym
     (c .before .before .before .before .before .walk .ensures)) ∙ sym (c .before .before .before .is-good .ensures) ∙ not-false _
     (c .before .if2 .left)) (sym (c .before .before .is-complete .ensures) ∙ not-true _ (c .if3 .taken))))
 

@@ -9,7 +9,7 @@ returns : tie.Need-returns
 returns c = ap toldLookup (sym (c .before .before .found .given .1)) ∙ c .before .before .before .before .find .ensures
 
 returns-2 : tie.Need-returns-2
-returns-2 c = c .refused .ensures ∙ ap toldLookup (sym (c .before .before .found2 .given .1)) ∙ c .before .before .before .before .find .ensures
+returns-2 c = c .told .ensures ∙ ap toldLookup (sym (c .before .before .found2 .given .1)) ∙ c .before .before .before .before .find .ensures
 
 pub tulgranie-find-spec : {M : Type 1} → statement M
 tulgranie-find-spec =

@@ -9,7 +9,7 @@ returns : tie.Need-returns
 returns c = ap toldPrinted (sym (c .before .printed .given .1)) ∙ c .before .before .before .fingerprint .ensures
 
 returns-2 : tie.Need-returns-2
-returns-2 c = c .refused .ensures ∙ ap toldPrinted (sym (c .before .before .printed2 .given .1)) ∙ c .before .before .before .before .fingerprint .ensures
+returns-2 c = c .told .ensures ∙ ap toldPrinted (sym (c .before .before .printed2 .given .1)) ∙ c .before .before .before .before .fingerprint .ensures
 
 pub tulgranie-fingerprint-spec : {M : Type 1} → statement M
 tulgranie-fingerprint-spec =
