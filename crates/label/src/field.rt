@@ -6,7 +6,7 @@ ghost use Rattle.label.specs.Numbers.{number_of, told_lookup};
 ghost use Rattle.label.specs.Label.{lengths, no_field, table, refused_at, allows, field_of, header_of};
 
 // Why a record, or a search in it, is refused.
-#[derive(Drop)]
+#[derive(Clone, Copy)]
 pub enum Why {
     TooLong,
     Cut,
@@ -35,14 +35,14 @@ impl Why {
 }
 
 // A refusal, and the place in the record that it is about.
-#[derive(Drop)]
+#[derive(Clone, Copy)]
 pub struct Refusal {
     pub why: Why,
     pub place: usize,
 }
 
 // A field: its tag, the place of its first byte, and where its value starts and how long that is.
-#[derive(Drop)]
+#[derive(Clone, Copy)]
 pub struct Field {
     pub tag: u8,
     pub place: usize,
@@ -51,14 +51,14 @@ pub struct Field {
 }
 
 // What a look at a record gives: a field, or why not.
-#[derive(Drop)]
+#[derive(Clone, Copy)]
 pub enum Lookup {
     At(Field),
     Refused(Refusal),
 }
 
 // A row of the table: whether there is such a field, and how long its value may be.
-#[derive(Drop)]
+#[derive(Clone, Copy)]
 pub struct Lengths {
     pub known: bool,
     pub least: usize,

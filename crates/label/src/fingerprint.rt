@@ -13,7 +13,7 @@ use secrets::v3::seed::RapidSecrets;
 use stream::rapid_stream_hasher::{Finished, RapidStreamHasher};
 
 // What a fingerprint comes to: the hash, or why the record has none.
-#[derive(Drop)]
+#[derive(Clone, Copy)]
 pub enum Printed {
     Print(u64),
     Refused(Refusal),

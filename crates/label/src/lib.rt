@@ -1,3 +1,5 @@
+#![tactic(auto)]
+
 pub mod field;
 pub mod finding;
 pub mod fingerprint;

@@ -9,14 +9,14 @@ use crate::field::{Lookup, Refusal, Why, header};
 const MOST: usize = 8192;
 
 // What reading finds: a good record, or why not.
-#[derive(Drop)]
+#[derive(Clone, Copy)]
 pub enum Reading {
     Good,
     Refused(Refusal),
 }
 
 // What comes of looking for a tag: its field, and how the fields passed on the way to it end.
-#[derive(Drop)]
+#[derive(Clone, Copy)]
 struct Sought {
     found: Lookup,
     ends: Reading,

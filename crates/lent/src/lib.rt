@@ -1,4 +1,6 @@
 // The hasher lent and changed in place, as the Rust has it: thin functions over the by-value core.
+#![tactic(auto)]
+
 ghost use Rattle.std.specs.Prelude.{◌≡◌};
 ghost use Rattle.stream.specs.State.{opening_of, write_of, finish_of, reset_of, said, ended};
 

@@ -1,4 +1,6 @@
 // The messages of the programs that replay the Rust's answers. One rule makes them all, so that none is stored.
+#![tactic(auto)]
+
 ghost use Rattle.std.specs.Prelude.{◌≡◌};
 ghost use Rattle.samples.specs.Sample.{message_of};
 

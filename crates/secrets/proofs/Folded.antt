@@ -1,6 +1,5 @@
 -- The folded multiply put together from its words. Assumes nothing.
-use Rattle.std.proofs.Common.{◌≡◌, ℕ, Bool, true, false}
-use lib.Bits.{bit_xor}
+use Rattle.std.proofs.Common.{◌≡◌, ℕ, Bool, true, false, bit_xor}
 use Rattle.secrets.specs.Mix.{low, high, mum, mix}
 use Rattle.secrets.specs.declared.util.mix.Mum.{Mum}
 

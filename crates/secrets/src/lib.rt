@@ -1,2 +1,4 @@
+#![tactic(auto)]
+
 pub mod util;
 pub mod v3;

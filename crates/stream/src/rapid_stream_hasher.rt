@@ -26,7 +26,7 @@ const MOST_CHUNKS: u64 = u64::MAX / CHUNK_SIZE as u64;
 
 // What an opening fixes.
 #[repr(C)]
-#[derive(Drop)]
+#[derive(Clone, Copy)]
 pub struct Settings {
     pub secrets: RapidSecrets,
     pub avalanche: bool,
@@ -36,7 +36,7 @@ pub struct Settings {
 // The state between two calls: the lanes and the number of chunks that they have taken; the bytes that wait, from
 // place 16 of the buffer on; before them the 16 that end the previous chunk.
 #[repr(C)]
-#[derive(Drop)]
+#[derive(Clone, Copy)]
 pub struct RapidStreamHasher {
     pub settings: Settings,
     pub lanes: [u64; 7],
@@ -47,7 +47,7 @@ pub struct RapidStreamHasher {
 
 // What a write says: all bytes were taken, or none, since the state is not sound or the stream would be too long, with
 // the room that is left.
-#[derive(Drop)]
+#[derive(Clone, Copy)]
 pub enum Outcome {
     Took,
     NotSound,
@@ -55,14 +55,14 @@ pub enum Outcome {
 }
 
 // A write's answer: the next state beside what the write says.
-#[derive(Drop)]
+#[derive(Clone, Copy)]
 pub struct Written {
     pub state: RapidStreamHasher,
     pub outcome: Outcome,
 }
 
 // What finish finds: the hash and the number of chunks mixed, or a state that is not sound.
-#[derive(Drop)]
+#[derive(Clone, Copy)]
 pub enum Finished {
     Hash(u64, u64),
     NotSound,

@@ -15,7 +15,7 @@ use secrets::v3::seed::RapidSecrets;
 
 // A number of the table, and a value.
 #[repr(C)]
-#[derive(Drop)]
+#[derive(Clone, Copy)]
 pub struct Value {
     pub number: u64,
     pub value: u64,

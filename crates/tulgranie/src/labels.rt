@@ -13,7 +13,7 @@ use secrets::v3::seed::RapidSecrets;
 // What a call about a record answers: a number of the table, a place, a tag, where a value starts and how long it is, and
 // a fingerprint. What a call does not give is 0.
 #[repr(C)]
-#[derive(Drop)]
+#[derive(Clone, Copy)]
 pub struct Answer {
     pub number: u64,
     pub place: u64,

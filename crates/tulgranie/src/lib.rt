@@ -1,3 +1,5 @@
+#![tactic(auto)]
+
 pub mod hashes;
 pub mod labels;
 pub mod streams;

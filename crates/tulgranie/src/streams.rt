@@ -8,7 +8,7 @@ use stream::rapid_stream_hasher::{Finished, Outcome, RapidStreamHasher};
 
 // What a write says: a number of the table, and the room left beside number 2.
 #[repr(C)]
-#[derive(Drop)]
+#[derive(Clone, Copy)]
 pub struct StreamWrote {
     pub number: u64,
     pub room: u64,
@@ -16,7 +16,7 @@ pub struct StreamWrote {
 
 // A write's answer by value: the next state beside what the write says.
 #[repr(C)]
-#[derive(Drop)]
+#[derive(Clone, Copy)]
 pub struct StreamWritten {
     pub state: RapidStreamHasher,
     pub says: StreamWrote,
@@ -24,7 +24,7 @@ pub struct StreamWritten {
 
 // What finish finds: a number of the table, the hash and the number of chunks mixed.
 #[repr(C)]
-#[derive(Drop)]
+#[derive(Clone, Copy)]
 pub struct StreamEnded {
     pub number: u64,
     pub hash: u64,

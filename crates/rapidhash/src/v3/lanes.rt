@@ -12,7 +12,7 @@ const CHUNK_SIZE: usize = 112;
 const TWO_CHUNKS: usize = 224;
 
 // Which of the three hashes: 7, 5 or 3 lanes.
-#[derive(Drop)]
+#[derive(Clone, Copy)]
 pub enum Size {
     Full,
     Micro,
@@ -20,7 +20,7 @@ pub enum Size {
 }
 
 // Lanes that have taken whole chunks, and the place that these reach.
-#[derive(Drop)]
+#[derive(Clone, Copy)]
 pub struct Mixed {
     pub lanes: [u64; 7],
     pub at: usize,

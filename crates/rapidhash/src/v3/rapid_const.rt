@@ -10,14 +10,14 @@ use secrets::util::mix::{rapid_mix, rapid_mum};
 use secrets::v3::seed::RapidSecrets;
 
 // The seed that whole chunks leave, and the place that they reach.
-#[derive(Drop)]
+#[derive(Clone, Copy)]
 pub struct Reached {
     pub seed: u64,
     pub at: usize,
 }
 
 // What the last step needs of a message: two words, the seed so far, and the number of bytes left over.
-#[derive(Drop)]
+#[derive(Clone, Copy)]
 pub struct Ends {
     pub a: u64,
     pub b: u64,

@@ -5,7 +5,7 @@ ghost use Rattle.std.specs.Prelude.{◌≡◌, ◌*◌, ◌^◌, ◌<◌, ◌≤
 ghost use Rattle.secrets.specs.Mix.{low, high, mum, mix};
 
 // The two words of a product.
-#[derive(Drop)]
+#[derive(Clone, Copy)]
 pub struct Mum {
     pub low: u64,
     pub high: u64,

@@ -33,7 +33,7 @@ pub const DEFAULT_RAPID_SECRETS: RapidSecrets = RapidSecrets {
 
 // The seed and the secrets of a hash.
 #[repr(C)]
-#[derive(Drop)]
+#[derive(Clone, Copy)]
 pub struct RapidSecrets {
     pub seed: u64,
     pub secrets: [u64; 7],
