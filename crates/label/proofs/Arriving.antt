@@ -1,11 +1,6 @@
 -- The first bytes of a record: which of its fields they hold, where they end, and what they leave as it was. Assumes nothing.
-use Prim.Native.Nat.{ℕ, ◌+◌, ◌-◌, ◌≤◌, ◌<◌}
-use mathlib.Core.Path.{◌≡◌, refl, sym, ◌∙◌, ap}
-use mathlib.Core.List.{List, [], ◌∷◌, ◌++◌, append_assoc}
-use native.Mathlib.Omega.{arith}
+use Rattle.std.proofs.Common.{◌≡◌, ℕ, ◌+◌, ◌-◌, ◌<◌, ◌≤◌, List, [], ◌∷◌, ◌++◌, length, get_or, take, sym, refl, ap, ◌∙◌, append_assoc, arith, length-append, length-take-le, get_or-take}
 use native.Mathlib.Decide.{dec_le, dec_lt}
-use lib.ListN.{length, get_or, take, length-append}
-use lib.Seq.{get_or-take, length-take-le}
 use Rattle.rapidhash.specs.Words.{word}
 use Rattle.rapidhash.proofs.Words.{word-take}
 use Rattle.label.specs.Label.{refused_at}

@@ -1,7 +1,6 @@
 -- What the lent functions share beside the hasher itself: the by-value core that each calls, of which all that is known is that it meets its
 -- contract, and the last step from a walk of a function's code to the contract of its routine. Assumes nothing.
-use mathlib.Core.Path.{◌≡◌}
-use mathlib.Core.List.{[], ◌∷◌, List}
+use Rattle.std.proofs.Common.{◌≡◌, List, [], ◌∷◌}
 use lib.Dec.{T as Holds}
 use seplogic.Ra.Ura.{Ura}
 use mir.Syntax.{Name, Ty, Fn, Opd as Operand, Place, Body, seq, call}

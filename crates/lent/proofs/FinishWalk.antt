@@ -1,8 +1,6 @@
 -- A lent hasher is looked at whole and passed by value to a core, and what the core returns is the result. One walk serves whatever function has
 -- this code. Assumes nothing.
-use mathlib.Core.Path.{refl}
-use Prim.Native.Nat.{ℕ}
-use mathlib.Core.List.{[], ◌∷◌, List}
+use Rattle.std.proofs.Common.{ℕ, List, [], ◌∷◌, refl, Bor}
 use seplogic.Ra.Ura.{Ura}
 use mir.Syntax.{Name, Ty, Fn, local, value_local, ty_ref, named, imm, place, deref, copy, rv_opd, seq, assign, call, return}
 use mir.Val.{Val, vptr}
@@ -21,7 +19,7 @@ use denote.Exit.{yes}
 use denote.RattleType.{RattleType, owns}
 use denote.Laws.{Is, shows}
 use denote.Memory.{part_at}
-use denote.Ref.{Bor, ShrRef, shr_vals, shr_Tells}
+use denote.Ref.{ShrRef, shr_vals, shr_Tells}
 use denote.Signature.{plain}
 use denote.Steps.{peeks, nothing}
 use denote.Triple.Statement.{Triple}

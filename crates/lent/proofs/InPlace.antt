@@ -1,7 +1,6 @@
 -- What the walks of the lent functions share: the hasher behind a reference is taken out whole and put back whole, and a local's hasher is
 -- lent and comes back. Each goes by the struct's own laws, so no field is named. Assumes nothing.
-use Prim.Native.Nat.{ℕ}
-use mathlib.Core.List.{List, [], ◌∷◌}
+use Rattle.std.proofs.Common.{ℕ, List, [], ◌∷◌}
 use lib.Dec.{T as Holds}
 use seplogic.Ra.Ura.{Ura}
 use seplogic.Ra.TreeShare.{full_share}

@@ -1,8 +1,6 @@
 -- A lent hasher is changed in place: it is taken out whole and passed by value to a core, and what the core returns is put back whole. One walk
 -- serves whatever function has this code. Assumes nothing.
-use mathlib.Core.Path.{refl}
-use Prim.Native.Nat.{ℕ}
-use mathlib.Core.List.{[], ◌∷◌, List}
+use Rattle.std.proofs.Common.{ℕ, List, [], ◌∷◌, refl, MutBor}
 use seplogic.Ra.Ura.{Ura}
 use mir.Syntax.{Name, Fn, local, value_local, ty_unit, ty_ref, named, mut, place, deref, copy, opd_unit, rv_opd, seq, assign, call, return}
 use mir.Val.{Val, vunit, vptr}
@@ -22,7 +20,7 @@ use denote.Exit.{yes}
 use denote.RattleType.{owns}
 use denote.Laws.{Is, shows}
 use denote.Memory.{mem}
-use denote.Ref.{MutBor, MutRef, mut_vals, mut_Tells}
+use denote.Ref.{MutRef, mut_vals, mut_Tells}
 use denote.Signature.{plain}
 use denote.Steps.{facts, nothing}
 use denote.Triple.Statement.{Triple}

@@ -1,14 +1,11 @@
 -- A lent hasher is changed in place beside bytes that are only looked at: it is taken out whole and passed by value to a core. Of the struct that
 -- the core returns the next hasher is put back whole, and of the rest the result is made. One walk serves whatever function has this code.
 -- Assumes nothing.
-use mathlib.Core.Path.{◌≡◌, refl, ap, ◌∙◌, subst}
-use Prim.Native.Nat.{ℕ}
-use mathlib.Core.List.{[], ◌∷◌, List}
+use Rattle.std.proofs.Common.{◌≡◌, ℕ, List, [], ◌∷◌, length, refl, ap, ◌∙◌, subst, w8, MutBor}
 use lib.Dec.{T as Holds}
-use lib.ListN.{length}
 use seplogic.Ra.Ura.{Ura}
 use seplogic.Ra.TreeShare.{full_share}
-use mir.Syntax.{Sym, Name, Ty, Fn, w8, ty_int, ty_ref, ty_struct, tcons, tnil, named, mut, imm, local, value_local}
+use mir.Syntax.{Sym, Name, Ty, Fn, ty_int, ty_ref, ty_struct, tcons, tnil, named, mut, imm, local, value_local}
 use mir.Syntax.{place, deref, field, copy, Rv as RValue, rv_opd, seq, assign, call, return}
 use mir.Val.{Val, WT, has_ty, vptr, vstruct, vcons, vnil}
 use base.Logic.{SProp, ent, emp, via, fst∗, id⊢}
@@ -30,7 +27,7 @@ use denote.Laws.{Is, Typed, Makes, shows}
 use denote.Struct.Declared.{Declared, row}
 use denote.Struct.Laws as LL
 use denote.Memory.{mem}
-use denote.Ref.{MutBor, MutRef, shr_vals, mut_Tells}
+use denote.Ref.{MutRef, shr_vals, mut_Tells}
 use denote.Slice.{slice_ty, slice_val, shr_slice_vals, ShrSlice, Room, shr_slice_Tells, shr_slice_copy}
 use denote.Signature.{plain}
 use denote.Steps.{only, owned, facts, nothing}

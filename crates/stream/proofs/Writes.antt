@@ -1,14 +1,7 @@
 -- What the code of a write makes is what the rule feeds: bytes that wait, a chunk that is filled, and chunks straight from the data.
 -- Assumes nothing.
-use Prim.Native.Nat.{ℕ, zero, suc, ◌+◌, ◌-◌, ◌*◌, ◌/◌, ◌≤◌, ◌<◌}
-use mathlib.Core.Path.{◌≡◌, refl, ◌∙◌, ap, sym}
-use mathlib.Core.Bool.{Bool, true}
-use mathlib.Core.List.{List, [], ◌∷◌, ◌++◌, append_assoc, append-nil}
-use native.Mathlib.Omega.{arith}
-use native.Mathlib.Nat.{le_refl}
-use lib.ListN.{length, take, drop, replicate, length-append, length-drop, take-append-drop}
-use borrow.Author.Tests.{le-leb}
-use lib.Seq.{take_at, take_all, drop_at, drop-append-add, length-take-le}
+use Rattle.std.proofs.Common.{◌≡◌, ℕ, zero, suc, ◌+◌, ◌-◌, ◌*◌, ◌/◌, ◌<◌, ◌≤◌, Bool, true, List, [], ◌∷◌, ◌++◌, length, take, drop, replicate, sym, refl, ap, ◌∙◌, append_assoc, append-nil, le_refl, arith, length-append, length-drop, take-append-drop, length-take-le, take_all, take_at, drop_at, le-leb}
+use lib.Seq.{drop-append-add}
 use Rattle.rapidhash.specs.Hash.{chunk_step, first_of, mixed_of}
 use Rattle.rapidhash.specs.declared.v3.lanes.Mixed.{Mixed}
 use Rattle.stream.specs.Stream.{Stream, slide, mixed_in, feed}
