@@ -2,7 +2,7 @@
 use Rattle.std.proofs.Common.{◌≡◌, ℕ, ◌+◌, ◌-◌, ◌*◌, ◌<◌, ◌≤◌, Bool, true, false, not, List, length, sym, ◌∙◌, arith}
 use borrow.Author.Tests.{not-true, not-false}
 use Rattle.stream.specs.Stream.{stream_hash}
-use Rattle.stream.specs.State.{most, sofar, view, sound, taken, said, answered, write_of, ended, finish_of}
+use Rattle.stream.specs.State.{most, sofar, view, sound, taken, answered, write_of, ended, finish_of}
 use Rattle.stream.specs.declared.rapid_stream_hasher.RapidStreamHasher.{RapidStreamHasher}
 use Rattle.stream.specs.declared.rapid_stream_hasher.Outcome.TheVariants.{Took, NotSound, TooLong}
 use Rattle.stream.specs.declared.rapid_stream_hasher.Finished.TheVariants.{Hash, NotSound as Unsound}

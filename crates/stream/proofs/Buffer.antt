@@ -1,9 +1,7 @@
 -- The buffer of 128 bytes: a part put into it, and what a state's buffer is as a stream. Assumes nothing.
-use Rattle.std.proofs.Common.{◌≡◌, ℕ, zero, suc, ◌+◌, ◌-◌, ◌*◌, ◌<◌, ◌≤◌, Bool, true, false, eqb, List, [], ◌∷◌, ◌++◌, length, take, drop, replicate, sym, refl, ap, ◌∙◌, append_assoc, append-nil, le_refl, arith, length-append, length-drop, take-append-drop, drop_of_length-le, drop-drop, take-add, eqb-true}
+use Rattle.std.proofs.Common.{◌≡◌, ℕ, zero, suc, ◌+◌, ◌-◌, ◌≤◌, List, [], ◌++◌, length, take, drop, replicate, sym, append_assoc, append-nil, le_refl, arith, length-drop, drop_of_length-le, drop-drop}
 use lib.Seq.{take-length}
-use Rattle.secrets.specs.Choice.{pick, all_are}
 use Rattle.stream.proofs.Clauses.{to_end}
-use Rattle.stream.proofs.Sound.{both}
 
 -- a part copied to a place of a buffer of n bytes, where it fits
 pub put_part : (b part y : List ℕ) (at n : ℕ) → length b ≡ n → at + length part ≤ n

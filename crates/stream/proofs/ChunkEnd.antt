@@ -1,5 +1,5 @@
 -- Whole chunks straight from the data, and what is left of it in a buffer of its own. Assumes nothing.
-use Rattle.std.proofs.Common.{◌≡◌, ℕ, ◌+◌, ◌-◌, ◌*◌, ◌/◌, ◌<◌, ◌≤◌, Bool, List, [], ◌++◌, length, take, drop, replicate, sym, refl, ap, ◌∙◌, append_assoc, arith, length-drop, take_at}
+use Rattle.std.proofs.Common.{◌≡◌, ℕ, ◌+◌, ◌-◌, ◌*◌, ◌/◌, ◌<◌, ◌≤◌, Bool, List, [], ◌++◌, length, take, drop, replicate, sym, refl, ap, ◌∙◌, arith, length-drop, take_at}
 use lib.Seq.{drop-append-add}
 use Rattle.rapidhash.specs.Hash.{chunks, lanes_after, mixed_of}
 use Rattle.rapidhash.specs.declared.v3.lanes.Mixed.{Mixed}
@@ -7,7 +7,6 @@ use Rattle.rapidhash.proofs.Chunks.{chunks_within, chunks_left}
 use Rattle.stream.specs.Stream.{Stream, slide, feed}
 use Rattle.stream.specs.State.{hold}
 use Rattle.stream.specs.declared.rapid_stream_hasher.Settings.{Settings}
-use Rattle.stream.specs.declared.rapid_stream_hasher.RapidStreamHasher.{RapidStreamHasher}
 use Rattle.stream.proofs.Buffer.{drop-zeros}
 use Rattle.stream.proofs.Clauses.{to_end}
 use Rattle.stream.proofs.Feed.{feed_chunks}

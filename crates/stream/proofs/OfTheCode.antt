@@ -1,6 +1,6 @@
 -- Demand 3 of the code itself: in every run of `write`, `finish` and `reset` from what `new` answers, where each answer is any that the call's
 -- contract allows, the stream answers as a plain list of the accepted bytes. Assumes nothing.
-use Rattle.std.proofs.Common.{◌≡◌, ℕ, Bool, List, Bor}
+use Rattle.std.proofs.Common.{ℕ, Bool, List, Bor}
 use contract.Lifetimes.{Lfts}
 use Rattle.secrets.specs.declared.v3.seed.RapidSecrets.{RapidSecrets}
 use Rattle.stream.specs.State.{AfterWrite, answered, Ended, ended}

@@ -1,7 +1,6 @@
 -- A stream that has taken a message gives the hash of the message. Assumes nothing.
-use Rattle.std.proofs.Common.{◌≡◌, ℕ, zero, suc, ◌+◌, ◌-◌, ◌*◌, ◌<◌, ◌≤◌, Bool, List, length, take, drop, replicate, refl, ap, ◌∙◌, arith, take-append-drop, get_or-drop, lt-ltb, ne_eqb}
+use Rattle.std.proofs.Common.{◌≡◌, ℕ, suc, ◌+◌, ◌-◌, ◌*◌, ◌<◌, ◌≤◌, Bool, List, length, take, drop, replicate, refl, ap, ◌∙◌, arith, take-append-drop, lt-ltb, ne_eqb}
 use native.Mathlib.Decide.{dec_le}
-use Rattle.rapidhash.specs.Words.{word}
 use Rattle.rapidhash.specs.Hash.{chunks, mixed_of, reached_of, long_ends, ends_of, last_of, hash_of}
 use Rattle.secrets.specs.declared.v3.seed.RapidSecrets.{RapidSecrets}
 use Rattle.rapidhash.proofs.Chunks.{chunks_more}
