@@ -44,28 +44,23 @@ escape() { # NAME: sets `shown` and `mark`
     done
 }
 
-# the kit's folder, where there is one
-kit() {
-    if [ -n "${RATTLE_HOME:-}" ]; then echo "$RATTLE_HOME"; return; fi
-    rt=$(command -v rt) || return 1
-    dirname "$(dirname "$(readlink -f "$rt")")"
-}
-
 # Whether the program is there and no older than the sources of its crates.
 current() { # CRATE...
     [ -x "$program" ] || return 1
     for crate in "$@"; do
-        [ ! -d "$root/crates/$crate" ] || find "$root/crates/$crate" -type f -newer "$program"
+        top=$root/crates/$crate
+        [ ! -d "$top" ] || find "$top" -path "$top/out" -prune -o -type f -newer "$program" -print
     done | head -n 1 | grep -q . && return 1
     return 0
 }
 
-# Says which crates were proved since it was last called.
+# Says which crates were proved since it was last called. What rt kept of an earlier build is not proved again, and not named.
 progress() {
-    now=$(grep -c '^rt: [A-Za-z0-9_]* proved (' "$log")
+    proved=$(sed -n -e '/^crate [A-Za-z0-9_]*: /{s/^crate \([A-Za-z0-9_]*\):.*/\1/;h;}' -e '/^logic=proved/{x;p;}' "$log")
+    now=$(printf '%s' "$proved" | grep -c .)
     while [ "$told" -lt "$now" ]; do
         told=$((told + 1))
-        say "$(sed -n 's/^rt: \([A-Za-z0-9_]*\) proved \((.*)\)$/\1 \2/p' "$log" | sed -n "${told}s/^/proved $told of $total: /p")"
+        say "proved $told of at most $total: $(printf '%s\n' "$proved" | sed -n "${told}p")"
     done
 }
 
@@ -81,7 +76,8 @@ build() { # CRATE...
     log=$(mktemp "$root/target/$command-XXXXXX.log") || quit "no log can be written in $root/target"
     say "the program is proved and built first; this takes some minutes"
     total=$# told=0
-    setsid sh -c 'cd "$1" && exec rt check "$2"' build "$root" "$name" >"$log" 2>&1 </dev/null 9>&- &
+    # (rt run makes the program and runs it once: here on no input, and what it prints is not looked at)
+    setsid sh -c 'cd "$1" && exec rt run' build "$root/crates/$name" >"$log" 2>&1 </dev/null 9>&- &
     child=-$!
     while kill -0 "${child#-}" 2>/dev/null; do progress; sleep 1; done
     wait "${child#-}"
@@ -89,31 +85,23 @@ build() { # CRATE...
     child=''
     progress
     [ $built -eq 0 ] || { tail -n 20 "$log" >&2; quit "the program is not proved or not built: $log has what rt said"; }
-    [ -x "$program" ] || quit "rt check $name left no target/bin/$name: $log has what rt said"
+    [ -x "$program" ] || quit "rt run left no crates/$name/out/$name: $log has what rt said"
     touch "$program"
     rm -f "$log"
     exec 9>&-
 }
 
-# Finds the program NAME, made of itself and the crates after it, and how it runs here.
+# Finds the program NAME, made of itself and the crates after it.
 prepare() { # NAME CRATE...
     name=$1
-    program=$root/target/bin/$name
-    current "$@" || build "$@"
-    kept=$(mktemp -d) || quit "there is no room for what is kept for a moment"
-    # The program is for x86-64. Elsewhere it runs in the emulator that the kit has beside its compiler.
+    program=$root/crates/$name/out/$name
     machine=$(uname -m)
-    emulator='' loader='' library=''
     case $machine in
     x86_64 | amd64) ;;
-    *)
-        home=$(kit) || quit "this computer is $machine: the Rattle kit's emulator is needed, and rt is not on the PATH"
-        tools=$home/on/$machine/toolchain
-        emulator=$tools/bin/qemu-x86_64 loader=$tools/lib/ld-linux-x86-64.so.2 library=$tools/lib
-        [ -x "$emulator" ] || quit "this computer is $machine, and the Rattle kit at $home has no emulator for it"
-        for word in $(env | sed -n 's/^\(QEMU_[A-Za-z0-9_]*\)=.*/\1/p'); do unset "$word"; done
-        ;;
+    *) quit "this computer is $machine, and the program is for x86-64 alone" ;;
     esac
+    current "$@" || build "$@"
+    kept=$(mktemp -d) || quit "there is no room for what is kept for a moment"
 }
 
 # Whether a file descriptor is open for reading.
@@ -123,10 +111,9 @@ opened() { # NUMBER
 
 # Runs the program over file descriptor 3, closed where that is, and sets `answer` to what it wrote.
 run() {
-    if [ -n "$emulator" ]; then set -- "$emulator" "$loader" --library-path "$library" "$program"; else set -- "$program"; fi
     (
         if opened 3; then exec <&3; else exec <&-; fi
-        exec "$@"
+        exec "$program"
     ) >"$kept/answer" &
     child=$!
     wait "$child"

@@ -22,64 +22,56 @@ pub struct Value {
 }
 
 // The 8 bytes at an offset, least significant first.
-#[unsafe(no_mangle)]
-pub extern "C" fn tulgranie_word8(bytes: &[u8], offset: usize) -> Value
+pub fn tulgranie_word8(bytes: &[u8], offset: usize) -> Value
     ensures { result ≡ value_for (word_of 8 bytes.now offset) }
 {
     value_of(read_u64(bytes, offset))
 }
 
 // The 4 bytes at an offset, least significant first.
-#[unsafe(no_mangle)]
-pub extern "C" fn tulgranie_word4(bytes: &[u8], offset: usize) -> Value
+pub fn tulgranie_word4(bytes: &[u8], offset: usize) -> Value
     ensures { result ≡ value_for (word_of 4 bytes.now offset) }
 {
     value_of(read_u32(bytes, offset))
 }
 
 // Seed and secrets from one number.
-#[unsafe(no_mangle)]
-pub extern "C" fn tulgranie_seed(seed: u64) -> RapidSecrets
+pub fn tulgranie_seed(seed: u64) -> RapidSecrets
     ensures { result ≡ seed_of seed }
 {
     RapidSecrets::seed(seed)
 }
 
 // The seed that the C++ original makes of a number, with the default secrets.
-#[unsafe(no_mangle)]
-pub extern "C" fn tulgranie_seed_cpp(seed: u64) -> RapidSecrets
+pub fn tulgranie_seed_cpp(seed: u64) -> RapidSecrets
     ensures { result ≡ seed_cpp seed }
 {
     RapidSecrets::seed_cpp(seed)
 }
 
 // Another seed with the same secrets.
-#[unsafe(no_mangle)]
-pub extern "C" fn tulgranie_reseed(secrets: RapidSecrets) -> RapidSecrets
+pub fn tulgranie_reseed(secrets: RapidSecrets) -> RapidSecrets
     ensures { result ≡ reseed_of secrets }
 {
     secrets.reseed()
 }
 
 // The default secrets.
-#[unsafe(no_mangle)]
-pub extern "C" fn tulgranie_default_secrets() -> RapidSecrets
+pub fn tulgranie_default_secrets() -> RapidSecrets
     ensures { result ≡ seed_cpp 0 }
 {
     RapidSecrets::default_secrets()
 }
 
 // The secret at an index.
-#[unsafe(no_mangle)]
-pub extern "C" fn tulgranie_secret(secrets: RapidSecrets, index: usize) -> Value
+pub fn tulgranie_secret(secrets: RapidSecrets, index: usize) -> Value
     ensures { result ≡ value_for (secret_of secrets index) }
 {
     value_of(secrets.secret(index))
 }
 
 // The full hash.
-#[unsafe(no_mangle)]
-pub extern "C" fn tulgranie_full(
+pub fn tulgranie_full(
     data: &[u8],
     secrets: RapidSecrets,
     avalanche: bool,
@@ -92,26 +84,14 @@ pub extern "C" fn tulgranie_full(
 }
 
 // The micro hash.
-#[unsafe(no_mangle)]
-pub extern "C" fn tulgranie_micro(
-    data: &[u8],
-    secrets: RapidSecrets,
-    avalanche: bool,
-    protected: bool,
-) -> u64
+pub fn tulgranie_micro(data: &[u8], secrets: RapidSecrets, avalanche: bool, protected: bool) -> u64
     ensures { result ≡ hash_of 5 avalanche protected secrets «data».now }
 {
     rapidhash_v3_micro_inline(data, secrets, avalanche, protected)
 }
 
 // The nano hash.
-#[unsafe(no_mangle)]
-pub extern "C" fn tulgranie_nano(
-    data: &[u8],
-    secrets: RapidSecrets,
-    avalanche: bool,
-    protected: bool,
-) -> u64
+pub fn tulgranie_nano(data: &[u8], secrets: RapidSecrets, avalanche: bool, protected: bool) -> u64
     ensures { result ≡ hash_of 3 avalanche protected secrets «data».now }
 {
     rapidhash_v3_nano_inline(data, secrets, avalanche, protected)

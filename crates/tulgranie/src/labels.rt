@@ -24,8 +24,7 @@ pub struct Answer {
 }
 
 // Whether a record is good.
-#[unsafe(no_mangle)]
-pub extern "C" fn tulgranie_read(record: &[u8]) -> Answer
+pub fn tulgranie_read(record: &[u8]) -> Answer
     ensures { told_of result ≡ told_reading (read_of «record».now) }
 {
     let reading = read(record);
@@ -36,8 +35,7 @@ pub extern "C" fn tulgranie_read(record: &[u8]) -> Answer
 }
 
 // The field of the first listed tag that a good record has.
-#[unsafe(no_mangle)]
-pub extern "C" fn tulgranie_find<'a, 'b>(record: &'a [u8], tags: &'b [u8]) -> Answer
+pub fn tulgranie_find<'a, 'b>(record: &'a [u8], tags: &'b [u8]) -> Answer
     ensures { told_of result ≡ told_lookup (find_of «record».now tags.now) }
 {
     let found = find(record, tags);
@@ -55,8 +53,7 @@ pub extern "C" fn tulgranie_find<'a, 'b>(record: &'a [u8], tags: &'b [u8]) -> An
 }
 
 // The fingerprint of a good record.
-#[unsafe(no_mangle)]
-pub extern "C" fn tulgranie_fingerprint(record: &[u8], secrets: RapidSecrets) -> Answer
+pub fn tulgranie_fingerprint(record: &[u8], secrets: RapidSecrets) -> Answer
     ensures { told_of result ≡ told_printed (fingerprint_of secrets «record».now) }
 {
     let printed = fingerprint(record, secrets);

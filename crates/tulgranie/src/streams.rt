@@ -32,8 +32,7 @@ pub struct StreamEnded {
 }
 
 // The opening state.
-#[unsafe(no_mangle)]
-pub extern "C" fn tulgranie_stream_open(
+pub fn tulgranie_stream_open(
     secrets: RapidSecrets,
     avalanche: bool,
     protected: bool,
@@ -44,8 +43,7 @@ pub extern "C" fn tulgranie_stream_open(
 }
 
 // All bytes are taken in place, or none, and why.
-#[unsafe(no_mangle)]
-pub extern "C" fn tulgranie_stream_write(stream: &mut RapidStreamHasher, data: &[u8]) -> StreamWrote
+pub fn tulgranie_stream_write(stream: &mut RapidStreamHasher, data: &[u8]) -> StreamWrote
     ensures { wrote_with stream.new result ≡ write_of 7 stream.old «data».now }
 {
     let w = written(*stream, data);
@@ -54,16 +52,14 @@ pub extern "C" fn tulgranie_stream_write(stream: &mut RapidStreamHasher, data: &
 }
 
 // The hash of the bytes so far, and how many chunks were mixed. The stream is only looked at.
-#[unsafe(no_mangle)]
-pub extern "C" fn tulgranie_stream_finish(stream: &RapidStreamHasher) -> StreamEnded
+pub fn tulgranie_stream_finish(stream: &RapidStreamHasher) -> StreamEnded
     ensures { ended_of result ≡ finish_of 7 stream.now }
 {
     finished(*stream)
 }
 
 // The opening state of the same settings, in place.
-#[unsafe(no_mangle)]
-pub extern "C" fn tulgranie_stream_reset(stream: &mut RapidStreamHasher)
+pub fn tulgranie_stream_reset(stream: &mut RapidStreamHasher)
     ensures { stream.new ≡ reset_of stream.old }
 {
     let next = (*stream).reset();
