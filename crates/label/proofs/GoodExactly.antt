@@ -18,6 +18,7 @@ use Rattle.label.proofs.Written.{Bytes, value-length, stands_written, written_wi
 module _ (s : List ℕ) (t : ℕ) where
   pub present_found : (fs : List Field) → Present t (map (plain s) fs) → is_field (with_tag t fs) ≡ true
   unfolding with_tag
+  present_found [] h = elim h [ ]
   present_found (f ∷ fs) (here e) = rw (eq-eqb f.tag t e)
   present_found (f ∷ fs) (later h) = go (eqb f.tag t) (present_found fs h)
     where
