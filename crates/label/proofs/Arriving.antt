@@ -1,6 +1,6 @@
 -- The first bytes of a record: which of its fields they hold, where they end, and what they leave as it was. Assumes nothing.
 use Rattle.std.proofs.Common.{◌≡◌, ℕ, ◌+◌, ◌-◌, ◌<◌, ◌≤◌, List, [], ◌∷◌, ◌++◌, length, get_or, take, sym, refl, ap, ◌∙◌, append_assoc, arith, length-append, length-take-le, get_or-take}
-use native.Mathlib.Decide.{dec_le, dec_lt}
+use Rattle.std.proofs.Math.Decide.{dec_le, dec_lt}
 use Rattle.rapidhash.specs.Words.{word}
 use Rattle.rapidhash.proofs.Words.{word-take}
 use Rattle.label.specs.Label.{refused_at}

@@ -1,7 +1,7 @@
 -- Reading is good exactly for good records, and gives just their fields. Assumes nothing.
 use Rattle.std.proofs.Common.{◌≡◌, ℕ, ◌+◌, Bool, true, false, eqb, List, [], ◌∷◌, ◌++◌, map, length, get_or, drop, refl, ap, ◌∙◌, append_assoc, append-nil, arith, length-append, eq-eqb, eqb-true}
 use mathlib.Core.List.{map-append}
-use lib.Seq.{drop-length}
+use Rattle.std.proofs.Math.Seq.{drop-length}
 use Rattle.secrets.specs.Choice.{pick}
 use Rattle.rapidhash.specs.Words.{word}
 use Rattle.label.specs.Label.{table, walk_of, with_tag, is_field, read_of, value_of}

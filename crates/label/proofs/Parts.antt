@@ -1,10 +1,5 @@
 -- A value as a part of the record that is lent. Assumes nothing.
-use Prim.Native.Nat.{ℕ, ◌+◌, ◌-◌, ◌≤◌}
-use mathlib.Core.Path.{◌≡◌, subst}
-use mathlib.Core.List.{List}
-use native.Mathlib.Omega.{arith}
-use native.Mathlib.Nat.{add_comm}
-use denote.Ref.{Bor}
+use Rattle.std.proofs.Common.{◌≡◌, ℕ, ◌+◌, ◌-◌, ◌≤◌, List, subst, add_comm, arith, Bor}
 use borrow.Rule.Slice.PartAt.{sl_partˢ}
 use Rattle.label.specs.Numbers.{told_lookup}
 use Rattle.label.specs.Label.{start_of, length_of, value_of, Part}
