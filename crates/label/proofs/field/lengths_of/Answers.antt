@@ -28,6 +28,6 @@ pub returns-in-0 : goal.returns-in-0
 returns-in-0 c =
     c.no_field.ensures
     ∙ elim c.in-0-1.branch [
-      in-0-1 w ↦ sym (no_field_zero _ (omega arith))
+      | in-0-1 w ↦ sym (no_field_zero _ (omega arith))
       | in_default+then-tag-lt128 w ↦ sym (no_field_lem _ (omega arith) (omega arith))
     ]
