@@ -5,7 +5,7 @@ use Rattle.std.proofs.Math.Seq.{drop-length}
 use Rattle.secrets.specs.Choice.{pick}
 use Rattle.rapidhash.specs.Words.{word}
 use Rattle.label.specs.Label.{table, walk_of, with_tag, is_field, read_of, value_of}
-use Rattle.label.specs.Rows.{Stands, field, LedTo, start, next, Reads, good}
+use Rattle.label.specs.Rows.{Stands, LedTo, start, next, Reads, good}
 use Rattle.label.specs.Good.{Plain, written, laid_out, Ascending, none, above, InTable, none as no_fields, sized, Present, here, later, GoodRecord, plain}
 use Rattle.label.specs.declared.field.Field.{Field}
 use Rattle.label.specs.declared.field.Lookup.TheVariants.{At}

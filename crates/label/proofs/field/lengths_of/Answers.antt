@@ -1,5 +1,5 @@
 -- One row of the table for each arm of the `match`. Assumes nothing.
-use Rattle.std.proofs.Common.{sym, ◌∙◌, ap, ⊎_elim, arith}
+use Rattle.std.proofs.Common.{sym, ◌∙◌, ap, arith}
 use Rattle.label.specs.Label.{table}
 use Rattle.label.proofs.Table.{later_use, no_field_lem, no_field_zero}
 use Rattle.label.proofs.field.lengths_of.Goals as goal
