@@ -7,7 +7,7 @@ use Rattle.rapidhash.specs.Words.{word}
 use Rattle.rapidhash.specs.Hash.{hash_of}
 use Rattle.label.specs.Label.{table, bad_at, field_of, header_of, onward, walk_from, walk_of, with_tag, is_field, read_of, value_of, when_good, hashed_of, fingerprint_of}
 use Rattle.label.specs.Numbers.{told_refusal, told_reading, told_printed}
-use Rattle.label.specs.Rows.{LedTo, start, Reads, unreadable, missing_first, missing_second, good}
+use Rattle.label.specs.Rows.{LedTo, Reads, unreadable, missing_first, missing_second, good}
 use Rattle.label.specs.Good.{Plain, written, laid_out, Present, GoodRecord, values_to}
 use Rattle.label.specs.Arrived.{Arrives, inside, lacking, whole, sent, sent_less}
 use Rattle.label.specs.declared.field.Why.TheVariants.{Missing}

@@ -1,6 +1,6 @@
 -- The fingerprint's values one after another through the stream: demand 3 makes them one message. Assumes nothing.
 use Rattle.std.proofs.Common.{◌≡◌, ℕ, ◌+◌, ◌≤◌, true, false, List, [], ◌++◌, length, sym, ap, ◌∙◌, arith, length-append, length-drop, length-take}
-use native.Mathlib.Decide.{dec_le}
+use Rattle.std.proofs.Math.Decide.{dec_le}
 use Rattle.rapidhash.specs.Hash.{chunks, hash_of}
 use Rattle.label.specs.Numbers.{Told, told_reading}
 use Rattle.label.specs.Label.{bad_at, walk_of, with_tag, read_of, value_of, hashed_of}

@@ -1,6 +1,6 @@
 -- Reading, case after case, in the order of the refusals. Assumes nothing.
 use Rattle.std.proofs.Common.{◌≡◌, ℕ, ◌<◌, ◌≤◌, Bool, true, false, List, [], ◌∷◌, length, sym, ap, ◌∙◌, le-leb}
-use borrow.Author.Tests.{lt-leb}
+use Rattle.std.proofs.lemmas.Bool.{lt-leb}
 use Rattle.secrets.specs.Choice.{every}
 use Rattle.label.specs.Numbers.{told_reading}
 use Rattle.label.specs.Label.{bad_at, walk_of, with_tag, is_field, is_good, complete, read_of, when_good}

@@ -1,6 +1,6 @@
 -- The rows of the table of fields, as the code's `match` tells them apart. Assumes nothing.
 use Rattle.std.proofs.Common.{◌≡◌, ℕ, ◌≤◌, leb, arith, ne_eqb, le-leb}
-use borrow.Author.Tests.{lt-leb}
+use Rattle.std.proofs.lemmas.Bool.{lt-leb}
 use Rattle.secrets.specs.Choice.{pick}
 use Rattle.label.specs.Label.{lengths, no_field, table}
 

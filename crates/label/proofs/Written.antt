@@ -1,6 +1,6 @@
 -- A field in a record, as it stands and as it is written. Assumes nothing.
 use Rattle.std.proofs.Common.{◌≡◌, ℕ, ◌+◌, ◌-◌, ◌*◌, ◌/◌, ◌%◌, ◌<◌, ◌≤◌, List, ◌∷◌, ◌++◌, length, get_or, take, drop, sym, ap, ◌∙◌, add-one, arith, length-append, length-drop, take-append-drop, length-take, get_or-drop, drop-cons, drop-drop}
-use lib.Seq.{take-append_seam, drop-append_seam}
+use Rattle.std.proofs.Math.Seq.{take-append_seam, drop-append_seam}
 use Rattle.rapidhash.specs.Words.{word}
 use Rattle.label.specs.Label.{value_of}
 use Rattle.label.specs.Good.{Plain, written, plain}
