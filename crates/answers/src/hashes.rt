@@ -3,17 +3,17 @@ ghost use Rattle.std.specs.Prelude.{◌≤◌, length};
 
 use crate::show::{shows_number, shows_word};
 use crate::words::{flag, least, length_of, number_of, word};
-use libc::STDOUT_FILENO;
 use rapidhash::v3::lanes::Size;
 use rapidhash::v3::rapid_const::{
     rapidhash_v3_inline, rapidhash_v3_micro_inline, rapidhash_v3_nano_inline,
 };
 use samples::message;
 use secrets::v3::seed::RapidSecrets;
+use std::io;
 use stream::rapid_stream_hasher::{Finished, RapidStreamHasher};
 
 // KIND FLAGS SEED LENGTH: the hash with the secrets of the seed. The flags are avalanche, compact and protected.
-pub(crate) fn shows_hash(line: &[u8], size: Size) {
+pub(crate) fn shows_hash(rt: &impl Print, line: &[u8], size: Size) -> io::Result<()> {
     let flags = word(line, 1);
     let secrets = RapidSecrets::seed(number_of(word(line, 2)));
     let n = length_of(word(line, 3));
@@ -31,11 +31,11 @@ pub(crate) fn shows_hash(line: &[u8], size: Size) {
         Size::Micro => rapidhash_v3_micro_inline(&bytes[0..n], secrets, avalanche, protected),
         Size::Nano => rapidhash_v3_nano_inline(&bytes[0..n], secrets, avalanche, protected),
     };
-    io::print_hex(STDOUT_FILENO, hash, 16);
+    print!(rt; "{hash:016x}")
 }
 
 // stream FLAGS SEED LENGTH CUT CUT: the hash and the number of chunks of the message written in three parts.
-pub(crate) fn shows_stream(line: &[u8]) {
+pub(crate) fn shows_stream(rt: &impl Print, line: &[u8]) -> io::Result<()> {
     let flags = word(line, 1);
     let secrets = RapidSecrets::seed(number_of(word(line, 2)));
     let n = length_of(word(line, 3));
@@ -46,12 +46,10 @@ pub(crate) fn shows_stream(line: &[u8]) {
     let finished = in_three(opened, &bytes[0..n], first, second).finish();
     match finished {
         Finished::Hash(hash, count) => {
-            io::print_hex(STDOUT_FILENO, hash, 16);
-            shows_number(count);
+            print!(rt; "{hash:016x}")?;
+            shows_number(rt, count)
         }
-        Finished::NotSound => {
-            io::write_all(STDOUT_FILENO, b"not sound");
-        }
+        Finished::NotSound => print!(rt; "not sound"),
     }
 }
 
@@ -71,19 +69,19 @@ fn in_three(
 }
 
 // secrets SEED: the number, and the seed and the seven secrets of `seed`, of `seed_cpp` and of the first one reseeded.
-pub(crate) fn shows_secrets(text: &[u8]) {
+pub(crate) fn shows_secrets(rt: &impl Print, text: &[u8]) -> io::Result<()> {
     let seed = number_of(text);
     let made = RapidSecrets::seed(seed);
-    io::print_hex(STDOUT_FILENO, seed, 16);
-    shows_all(made);
-    shows_all(RapidSecrets::seed_cpp(seed));
-    shows_all(made.reseed());
+    print!(rt; "{seed:016x}")?;
+    shows_all(rt, made)?;
+    shows_all(rt, RapidSecrets::seed_cpp(seed))?;
+    shows_all(rt, made.reseed())
 }
 
-fn shows_all(secrets: RapidSecrets) {
-    shows_word(secrets.seed);
-    let s = secrets.secrets;
-    for j in 0..7 {
-        shows_word(s[j]);
+fn shows_all(rt: &impl Print, secrets: RapidSecrets) -> io::Result<()> {
+    shows_word(rt, secrets.seed)?;
+    for secret in secrets.secrets {
+        shows_word(rt, secret)?;
     }
+    Ok(())
 }

@@ -7,24 +7,24 @@ use label::field::{Lookup, Refusal};
 use label::finding::{find, part};
 use label::fingerprint::{Printed, fingerprint};
 use label::reading::{Reading, read};
-use libc::STDOUT_FILENO;
 use secrets::v3::seed::RapidSecrets;
+use std::io;
 use stream::rapid_stream_hasher::{Finished, RapidStreamHasher};
 
 // Number, place and tag.
-pub(crate) fn shows_reading(text: &[u8]) {
+pub(crate) fn shows_reading(rt: &impl Print, text: &[u8]) -> io::Result<()> {
     let bytes = bytes_of(text);
     let held = bytes.held;
     let count = bytes.count;
     let reading = read(&held[0..count]);
     match reading {
-        Reading::Good => shows_numbers(0, 0, 0),
-        Reading::Refused(r) => shows_refusal(r),
+        Reading::Good => shows_numbers(rt, 0, 0, 0),
+        Reading::Refused(r) => shows_refusal(rt, r),
     }
 }
 
 // Number, tag, place and the value's own bytes.
-pub(crate) fn shows_finding(text: &[u8], list: &[u8]) {
+pub(crate) fn shows_finding(rt: &impl Print, text: &[u8], list: &[u8]) -> io::Result<()> {
     let bytes = bytes_of(text);
     let held = bytes.held;
     let count = bytes.count;
@@ -33,40 +33,44 @@ pub(crate) fn shows_finding(text: &[u8], list: &[u8]) {
     let many = tags.count;
     let found = find(&held[0..count], &listed[0..many]);
     match found {
-        Lookup::At(f) => shows_numbers(0, f.tag as u64, f.place as u64),
+        Lookup::At(f) => shows_numbers(rt, 0, f.tag as u64, f.place as u64)?,
         Lookup::Refused(r) => {
             let why = r.why;
-            shows_numbers(why.number(), 0, r.place as u64)
+            shows_numbers(rt, why.number(), 0, r.place as u64)?
         }
     }
-    io::write_all(STDOUT_FILENO, b" ");
-    shows_bytes(part(&held[0..count], &listed[0..many]));
+    print!(rt; " ")?;
+    shows_bytes(rt, part(&held[0..count], &listed[0..many]))
 }
 
 // Number, place, tag, the fingerprint, and at how many of the places where the values can be cut in two the stream ends
 // in that fingerprint too.
-pub(crate) fn shows_fingerprint(text: &[u8], secrets: RapidSecrets) {
+pub(crate) fn shows_fingerprint(
+    rt: &impl Print,
+    text: &[u8],
+    secrets: RapidSecrets,
+) -> io::Result<()> {
     let bytes = bytes_of(text);
     let held = bytes.held;
     let count = bytes.count;
     let printed = fingerprint(&held[0..count], secrets);
     match printed {
         Printed::Print(hash) => {
-            shows_numbers(0, 0, 0);
-            shows_word(hash);
-            shows_number(cuts(&held[0..count], secrets, hash));
+            shows_numbers(rt, 0, 0, 0)?;
+            shows_word(rt, hash)?;
+            shows_number(rt, cuts(&held[0..count], secrets, hash))
         }
         Printed::Refused(r) => {
-            shows_refusal(r);
-            shows_word(0);
-            shows_number(0);
+            shows_refusal(rt, r)?;
+            shows_word(rt, 0)?;
+            shows_number(rt, 0)
         }
     }
 }
 
-fn shows_refusal(r: Refusal) {
+fn shows_refusal(rt: &impl Print, r: Refusal) -> io::Result<()> {
     let why = r.why;
-    shows_numbers(why.number(), r.place as u64, 0);
+    shows_numbers(rt, why.number(), r.place as u64, 0)
 }
 
 // At how many places a cut in two leaves the fingerprint as it is: every place counts where the values are joined.

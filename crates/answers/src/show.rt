@@ -1,32 +1,31 @@
 // Numbers and bytes on standard output.
-use libc::STDOUT_FILENO;
+use std::io;
 
-pub(crate) fn shows_numbers(number: u64, one: u64, two: u64) {
-    io::print_decimal(STDOUT_FILENO, number);
-    shows_number(one);
-    shows_number(two);
+pub(crate) fn shows_numbers(rt: &impl Print, number: u64, one: u64, two: u64) -> io::Result<()> {
+    print!(rt; "{number}")?;
+    shows_number(rt, one)?;
+    shows_number(rt, two)
 }
 
-pub(crate) fn shows_number(n: u64) {
-    io::write_all(STDOUT_FILENO, b" ");
-    io::print_decimal(STDOUT_FILENO, n);
+pub(crate) fn shows_number(rt: &impl Print, n: u64) -> io::Result<()> {
+    print!(rt; " {n}")
 }
 
 // A 64-bit number.
-pub(crate) fn shows_word(n: u64) {
-    io::write_all(STDOUT_FILENO, b" ");
-    io::print_hex(STDOUT_FILENO, n, 16);
+pub(crate) fn shows_word(rt: &impl Print, n: u64) -> io::Result<()> {
+    print!(rt; " {n:016x}")
 }
 
-pub(crate) fn shows_bytes(bytes: &[u8]) {
-    if bytes.len() == 0 {
-        io::write_all(STDOUT_FILENO, b"-");
+pub(crate) fn shows_bytes(rt: &impl Print, bytes: &[u8]) -> io::Result<()> {
+    if bytes.is_empty() {
+        print!(rt; "-")?;
     }
-    for i in 0..bytes.len() {
-        shows_byte(bytes[i]);
+    for byte in bytes {
+        shows_byte(rt, *byte)?;
     }
+    Ok(())
 }
 
-pub(crate) fn shows_byte(byte: u8) {
-    io::print_hex(STDOUT_FILENO, byte as u64, 2);
+pub(crate) fn shows_byte(rt: &impl Print, byte: u8) -> io::Result<()> {
+    print!(rt; "{byte:02x}")
 }

@@ -17,8 +17,20 @@ pub(crate) fn word(line: &[u8], number: usize) -> &[u8] {
         let next = past_word(line, at);
         at = next;
     }
-    let end = bytes::scan::find(line, at, line.len(), b' ');
+    let end = word_end(line, at);
     &line[at..end]
+}
+
+// Where the word at a place ends: at the next space, or with the line.
+fn word_end(line: &[u8], at: usize) -> usize
+    requires { at ≤ length line.now }
+    ensures from { at ≤ result }
+    ensures within { result ≤ length line.now }
+{
+    match line[at..].iter().position(|glyph| *glyph == b' ') {
+        Some(n) => at + n,
+        None => line.len(),
+    }
 }
 
 // Where the word after the one at a place starts, or the line's end.
@@ -26,7 +38,7 @@ fn past_word(line: &[u8], at: usize) -> usize
     requires { at ≤ length line.now }
     ensures { result ≤ length line.now }
 {
-    let end = bytes::scan::find(line, at, line.len(), b' ');
+    let end = word_end(line, at);
     if end < line.len() { end + 1 } else { end }
 }
 

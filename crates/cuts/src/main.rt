@@ -1,73 +1,72 @@
 // Messages written to a stream whole and cut in every way, one line for each length: the hash, the number of chunks
 // mixed, and how many of the cuts end in both. The file `stdout` beside this folder holds what the Rust's own stream
 // hasher makes of the same cuts, printed by the oracle: oracle/README.md says how.
+#![tactic(auto)]
+
 ghost use Rattle.std.specs.Prelude.{◌≤◌, length};
 
-use libc::STDOUT_FILENO;
 use rapidhash::v3::rapid_const::rapidhash_v3_inline;
 use samples::message;
 use secrets::v3::seed::RapidSecrets;
+use std::io;
 use stream::rapid_stream_hasher::{Finished, Outcome, RapidStreamHasher};
 
 // What a stream ends in.
-#[derive(Drop)]
+#[derive(Clone, Copy)]
 struct End {
     hash: u64,
     count: u64,
 }
 
 // Lengths around the ends of the short path, of one chunk and of two, and two of nine chunks.
-fn main() {
-    line(0);
-    line(1);
-    line(15);
-    line(16);
-    line(17);
-    line(111);
-    line(112);
-    line(113);
-    line(114);
-    line(223);
-    line(224);
-    line(225);
-    line(226);
-    line(999);
-    line(1000);
+fn main(rt: HostRuntime) -> io::Result<()> {
+    line(&rt, 0)?;
+    line(&rt, 1)?;
+    line(&rt, 15)?;
+    line(&rt, 16)?;
+    line(&rt, 17)?;
+    line(&rt, 111)?;
+    line(&rt, 112)?;
+    line(&rt, 113)?;
+    line(&rt, 114)?;
+    line(&rt, 223)?;
+    line(&rt, 224)?;
+    line(&rt, 225)?;
+    line(&rt, 226)?;
+    line(&rt, 999)?;
+    line(&rt, 1000)
 }
 
 // The line of the message of n bytes. Between them the even and the odd lengths have each flag on and off.
-fn line(n: usize)
+fn line(rt: &impl Print, n: usize) -> io::Result<()>
     requires { n ≤ 1000 }
 {
     let bytes = message(n);
     let secrets = RapidSecrets::seed(0x0123456789abcdef);
     let fresh = RapidStreamHasher::new(secrets, n % 2 == 0, n % 2 == 1);
-    counts(fresh, &bytes[0..n]);
+    counts(rt, fresh, &bytes[0..n])
 }
 
 // One write of the whole message sets what every cut is compared with.
-fn counts(fresh: RapidStreamHasher, bytes: &[u8])
+fn counts(rt: &impl Print, fresh: RapidStreamHasher, bytes: &[u8]) -> io::Result<()>
     requires { length bytes.now ≤ 1000 }
 {
     let whole = took(fresh, bytes);
     let wanted = end_of(whole);
-    io::print_decimal(STDOUT_FILENO, bytes.len() as u64);
-    io::write_all(STDOUT_FILENO, b" ");
-    io::print_hex(STDOUT_FILENO, wanted.hash, 16);
-    shown(b" ", wanted.count);
-    shown(b" two ", two_parts(fresh, bytes, wanted));
-    shown(b" three ", three_parts(fresh, bytes, wanted));
-    shown(b" bytes ", byte_by_byte(fresh, bytes, wanted));
-    shown(b" empty ", with_empty_writes(fresh, bytes, wanted));
-    shown(b" middle ", finished_between(fresh, bytes, wanted));
-    shown(b" again ", again(whole, bytes, wanted));
-    io::write_all(STDOUT_FILENO, b"\n");
+    print!(rt; "{} {:016x}", bytes.len(), wanted.hash)?;
+    shown(rt, " ", wanted.count)?;
+    shown(rt, " two ", two_parts(fresh, bytes, wanted))?;
+    shown(rt, " three ", three_parts(fresh, bytes, wanted))?;
+    shown(rt, " bytes ", byte_by_byte(fresh, bytes, wanted))?;
+    shown(rt, " empty ", with_empty_writes(fresh, bytes, wanted))?;
+    shown(rt, " middle ", finished_between(fresh, bytes, wanted))?;
+    shown(rt, " again ", again(whole, bytes, wanted))?;
+    println!(rt)
 }
 
 // A number and what stands before it.
-fn shown(name: &[u8], number: u64) {
-    io::write_all(STDOUT_FILENO, name);
-    io::print_decimal(STDOUT_FILENO, number);
+fn shown(rt: &impl Print, name: &str, number: u64) -> io::Result<()> {
+    print!(rt; "{name}{number}")
 }
 
 // The written state. A refused write must not pass for an empty one, so it leaves a count that no sound state has,

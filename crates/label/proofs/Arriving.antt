@@ -1,15 +1,10 @@
 -- The first bytes of a record: which of its fields they hold, where they end, and what they leave as it was. Assumes nothing.
-use Prim.Native.Nat.{ℕ, ◌+◌, ◌-◌, ◌≤◌, ◌<◌}
-use mathlib.Core.Path.{◌≡◌, refl, sym, ◌∙◌, ap}
-use mathlib.Core.List.{List, [], ◌∷◌, ◌++◌, append_assoc}
-use native.Mathlib.Omega.{arith}
-use native.Mathlib.Decide.{dec_le, dec_lt}
-use lib.ListN.{length, get_or, take, length-append}
-use lib.Seq.{get_or-take, length-take-le}
+use Rattle.std.proofs.Common.{◌≡◌, ℕ, ◌+◌, ◌-◌, ◌<◌, ◌≤◌, List, [], ◌∷◌, ◌++◌, length, get_or, take, sym, refl, ap, ◌∙◌, append_assoc, arith, length-append, length-take-le, get_or-take}
+use Rattle.std.proofs.Math.Decide.{dec_le, dec_lt}
 use Rattle.rapidhash.specs.Words.{word}
 use Rattle.rapidhash.proofs.Words.{word-take}
 use Rattle.label.specs.Label.{refused_at}
-use Rattle.label.specs.Rows.{Stands, header_cut, value_cut, LedTo, start, next, Reads}
+use Rattle.label.specs.Rows.{Stands, header_cut, value_cut, LedTo, start, next}
 use Rattle.label.specs.Good.{Plain, written, laid_out, Ascending, above, InTable, sized}
 use Rattle.label.specs.Good.Ascending.{none as no-tags}
 use Rattle.label.specs.Good.InTable.{none as no_lengths}
@@ -17,8 +12,6 @@ use Rattle.label.specs.declared.field.Why.TheVariants.{Cut}
 use Rattle.label.specs.declared.field.Field.{Field}
 use Rattle.label.specs.declared.field.Lookup.TheVariants.{At}
 use Rattle.label.proofs.Standing.{standing}
-use Rattle.label.proofs.reading.read.Reads as read
-use Rattle.label.proofs.fingerprint.fingerprint.Reads as fingerprint
 
 module _ (s : List ℕ) (n : ℕ) (h : n ≤ length s) where
   -- the bytes that arrived are as they were

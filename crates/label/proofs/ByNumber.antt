@@ -1,12 +1,6 @@
 -- The rows of the table by their numbers: a number comes back, with a place, exactly when its row says. Assumes nothing.
-use Prim.Native.Nat.{ℕ, ◌≤◌}
-use mathlib.Core.Path.{◌≡◌, refl, sym, ◌∙◌, ap, subst}
-use mathlib.Core.Bool.{Bool, true, false}
-use mathlib.Core.List.{List, []}
-use native.Mathlib.Omega.{arith}
+use Rattle.std.proofs.Common.{◌≡◌, ℕ, ◌≤◌, Bool, true, false, List, [], length, sym, refl, ap, ◌∙◌, subst, arith, Bor}
 use contract.Lifetimes.{Lfts}
-use denote.Ref.{Bor}
-use lib.ListN.{length}
 use Rattle.secrets.specs.declared.v3.seed.RapidSecrets.{RapidSecrets}
 use Rattle.rapidhash.specs.Hash.{hash_of}
 use Rattle.label.specs.Label.{refused_at, bad_at, header_of, walk_of, not_listed, with_tag, is_field, complete, read_of, first_listed, when_good, find_of, value_of, hashed_of, fingerprint_of}

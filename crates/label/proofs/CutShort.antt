@@ -1,20 +1,13 @@
 -- A good record whose end never arrives: wherever it is cut, what arrived is read as specs/Arrived says, by the rules and by the code. Assumes
 -- nothing.
-use Prim.Native.Nat.{ℕ, ◌+◌, ◌≤◌, ◌<◌}
-use mathlib.Core.Path.{◌≡◌, refl, sym, ◌∙◌, ap, subst}
-use mathlib.Core.Bool.{Bool, true, false}
-use mathlib.Core.List.{List, [], ◌∷◌, ◌++◌}
-use native.Mathlib.Omega.{arith}
+use Rattle.std.proofs.Common.{◌≡◌, ℕ, ◌+◌, ◌<◌, ◌≤◌, Bool, true, false, List, [], ◌∷◌, ◌++◌, length, take, sym, refl, ap, ◌∙◌, subst, arith, take_at, Bor}
 use contract.Lifetimes.{Lfts}
-use denote.Ref.{Bor}
-use lib.ListN.{length, take}
-use lib.Seq.{take_at}
 use Rattle.secrets.specs.declared.v3.seed.RapidSecrets.{RapidSecrets}
 use Rattle.rapidhash.specs.Words.{word}
 use Rattle.rapidhash.specs.Hash.{hash_of}
 use Rattle.label.specs.Label.{table, bad_at, field_of, header_of, onward, walk_from, walk_of, with_tag, is_field, read_of, value_of, when_good, hashed_of, fingerprint_of}
 use Rattle.label.specs.Numbers.{told_refusal, told_reading, told_printed}
-use Rattle.label.specs.Rows.{LedTo, start, Reads, unreadable, missing_first, missing_second, good}
+use Rattle.label.specs.Rows.{LedTo, Reads, unreadable, missing_first, missing_second, good}
 use Rattle.label.specs.Good.{Plain, written, laid_out, Present, GoodRecord, values_to}
 use Rattle.label.specs.Arrived.{Arrives, inside, lacking, whole, sent, sent_less}
 use Rattle.label.specs.declared.field.Why.TheVariants.{Missing}

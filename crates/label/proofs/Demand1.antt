@@ -1,8 +1,5 @@
 -- Demand 1 for label records: no contract leaves a choice. Two answers that one contract allows for the same input are equal. Assumes nothing.
-use mathlib.Core.Path.{◌≡◌}
-use Prim.Native.Nat.{ℕ}
-use mathlib.Core.List.{List}
-use denote.Ref.{Bor}
+use Rattle.std.proofs.Common.{◌≡◌, ℕ, List, Bor}
 use Rattle.secrets.proofs.Demand1.{OneAnswer, one}
 use Rattle.label.proofs.Lookups.{lookup_apart, reading_apart, printed_apart}
 use Rattle.label.proofs.field.header.Reads as header

@@ -1,9 +1,5 @@
 -- What finding finds lies in the record. Assumes nothing.
-use Prim.Native.Nat.{ℕ, ◌+◌, ◌≤◌}
-use mathlib.Core.Path.{◌≡◌, refl}
-use mathlib.Core.List.{List, [], ◌∷◌}
-use native.Mathlib.Omega.{arith}
-use lib.ListN.{length}
+use Rattle.std.proofs.Common.{◌≡◌, ℕ, ◌+◌, ◌≤◌, List, [], ◌∷◌, length, refl, arith}
 use Rattle.rapidhash.proofs.Tests.{either}
 use Rattle.label.specs.Numbers.{told_lookup}
 use Rattle.label.specs.Label.{walk_of, with_tag, is_field, read_of, first_listed, when_good, find_of, start_of, length_of}

@@ -1,8 +1,5 @@
 -- Finding and the rows of the table say the same: refusal 11 exactly when no listed tag is there, else the first that is. Assumes nothing.
-use Prim.Native.Nat.{ℕ}
-use mathlib.Core.Path.{◌≡◌, refl, ◌∙◌, ap, subst}
-use mathlib.Core.Bool.{false}
-use mathlib.Core.List.{List, [], ◌∷◌, ◌++◌}
+use Rattle.std.proofs.Common.{◌≡◌, ℕ, false, List, [], ◌∷◌, ◌++◌, refl, ap, ◌∙◌, subst}
 use Rattle.label.specs.Label.{walk_of, not_listed, with_tag, is_field, read_of, first_listed, when_good, find_of}
 use Rattle.label.specs.Rows.{NoneListed, empty, absent, Finds, bad_record, none_there, found}
 use Rattle.label.specs.declared.field.Field.{Field}

@@ -1,11 +1,6 @@
 -- The fingerprint's values one after another through the stream: demand 3 makes them one message. Assumes nothing.
-use Prim.Native.Nat.{ℕ, ◌+◌, ◌≤◌}
-use mathlib.Core.Path.{◌≡◌, sym, ◌∙◌, ap}
-use mathlib.Core.Bool.{true, false}
-use mathlib.Core.List.{List, [], ◌++◌}
-use native.Mathlib.Omega.{arith}
-use native.Mathlib.Decide.{dec_le}
-use lib.ListN.{length, length-take, length-drop, length-append}
+use Rattle.std.proofs.Common.{◌≡◌, ℕ, ◌+◌, ◌≤◌, true, false, List, [], ◌++◌, length, sym, ap, ◌∙◌, arith, length-append, length-drop, length-take}
+use Rattle.std.proofs.Math.Decide.{dec_le}
 use Rattle.rapidhash.specs.Hash.{chunks, hash_of}
 use Rattle.label.specs.Numbers.{Told, told_reading}
 use Rattle.label.specs.Label.{bad_at, walk_of, with_tag, read_of, value_of, hashed_of}

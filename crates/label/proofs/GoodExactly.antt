@@ -1,17 +1,11 @@
 -- Reading is good exactly for good records, and gives just their fields. Assumes nothing.
-use Prim.Native.Nat.{ℕ, ◌+◌}
-use mathlib.Core.Path.{◌≡◌, refl, ◌∙◌, ap}
-use mathlib.Core.Bool.{Bool, true, false}
-use mathlib.Core.List.{List, [], ◌∷◌, ◌++◌, map, map-append, append_assoc, append-nil}
-use native.Mathlib.Omega.{arith}
-use lib.Dec.{eqb}
-use lib.ListN.{length, get_or, drop, length-append}
-use lib.Seq.{drop-length}
-use borrow.Author.Tests.{eq-eqb, eqb-true}
+use Rattle.std.proofs.Common.{◌≡◌, ℕ, ◌+◌, Bool, true, false, eqb, List, [], ◌∷◌, ◌++◌, map, length, get_or, drop, refl, ap, ◌∙◌, append_assoc, append-nil, arith, length-append, eq-eqb, eqb-true}
+use mathlib.Core.List.{map-append}
+use Rattle.std.proofs.Math.Seq.{drop-length}
 use Rattle.secrets.specs.Choice.{pick}
 use Rattle.rapidhash.specs.Words.{word}
 use Rattle.label.specs.Label.{table, walk_of, with_tag, is_field, read_of, value_of}
-use Rattle.label.specs.Rows.{Stands, field, LedTo, start, next, Reads, good}
+use Rattle.label.specs.Rows.{Stands, LedTo, start, next, Reads, good}
 use Rattle.label.specs.Good.{Plain, written, laid_out, Ascending, none, above, InTable, none as no_fields, sized, Present, here, later, GoodRecord, plain}
 use Rattle.label.specs.declared.field.Field.{Field}
 use Rattle.label.specs.declared.field.Lookup.TheVariants.{At}
@@ -24,6 +18,7 @@ use Rattle.label.proofs.Written.{Bytes, value-length, stands_written, written_wi
 module _ (s : List ℕ) (t : ℕ) where
   pub present_found : (fs : List Field) → Present t (map (plain s) fs) → is_field (with_tag t fs) ≡ true
   unfolding with_tag
+  present_found [] h = elim h [ ]
   present_found (f ∷ fs) (here e) = rw (eq-eqb f.tag t e)
   present_found (f ∷ fs) (later h) = go (eqb f.tag t) (present_found fs h)
     where

@@ -1,12 +1,8 @@
 -- The fingerprint is of the values of tags 1 to 4 in the record's order, as the record is written. Since tags ascend, each lookup adds its
 -- value at the end of those with smaller tags. Assumes nothing.
-use Prim.Native.Nat.{ℕ, suc, ◌≤◌}
-use mathlib.Core.Path.{◌≡◌, refl}
-use mathlib.Core.Bool.{true, false}
-use mathlib.Core.List.{List, [], ◌∷◌, ◌++◌, map, append_assoc, append-nil}
-use native.Mathlib.Omega.{arith}
-use native.Mathlib.Decide.{dec_le, ℕ_discrete}
-use borrow.Author.Tests.{le-leb, lt-leb, eq-eqb, ne_eqb}
+use Rattle.std.proofs.Common.{◌≡◌, ℕ, suc, ◌≤◌, true, false, List, [], ◌∷◌, ◌++◌, map, refl, append_assoc, append-nil, arith, eq-eqb, ne_eqb, le-leb}
+use Rattle.std.proofs.Math.Decide.{dec_le, ℕ_discrete}
+use Rattle.std.proofs.lemmas.Bool.{lt-leb}
 use Rattle.rapidhash.specs.Hash.{hash_of}
 use Rattle.secrets.specs.declared.v3.seed.RapidSecrets.{RapidSecrets}
 use Rattle.label.specs.Label.{walk_of, with_tag, value_of, hashed_of, when_good, fingerprint_of}

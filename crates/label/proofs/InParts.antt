@@ -1,13 +1,7 @@
 -- A record's hashed bytes in any parts through a stream: finish answers the record's fingerprint. Assumes nothing.
-use Prim.Native.Nat.{ℕ, ◌+◌, ◌≤◌}
-use mathlib.Core.Path.{◌≡◌, refl, ◌∙◌, ap}
-use mathlib.Core.Bool.{true, false}
-use mathlib.Core.List.{List, [], ◌∷◌, ◌++◌, append_assoc, append-nil, flatten}
-use native.Mathlib.Omega.{arith}
+use Rattle.std.proofs.Common.{◌≡◌, ℕ, ◌+◌, ◌≤◌, true, false, List, [], ◌∷◌, ◌++◌, length, refl, ap, ◌∙◌, append_assoc, append-nil, arith, length-append, Bor, le-leb}
+use mathlib.Core.List.{flatten}
 use contract.Lifetimes.{Lfts}
-use denote.Ref.{Bor}
-use lib.ListN.{length, length-append}
-use borrow.Author.Tests.{le-leb}
 use Rattle.secrets.specs.declared.v3.seed.RapidSecrets.{RapidSecrets}
 use Rattle.rapidhash.specs.Hash.{chunks, hash_of}
 use Rattle.stream.specs.State.{most, opening_of}

@@ -1,7 +1,5 @@
 -- The number and the values tell answers apart: each answer can be told back from them. Assumes nothing.
-use Prim.Native.Nat.{ℕ}
-use mathlib.Core.Path.{◌≡◌, refl}
-use lib.Dec.{eqb}
+use Rattle.std.proofs.Common.{◌≡◌, ℕ, eqb, refl}
 use Rattle.secrets.specs.Choice.{pick}
 use Rattle.secrets.proofs.Demand1.{told_back}
 use Rattle.label.specs.Numbers.{Told, told_refusal, told_lookup, told_reading, told_printed}

@@ -1,10 +1,6 @@
 -- Reading, case after case, in the order of the refusals. Assumes nothing.
-use Prim.Native.Nat.{ℕ, ◌≤◌, ◌<◌}
-use mathlib.Core.Path.{◌≡◌, sym, ◌∙◌, ap}
-use mathlib.Core.Bool.{Bool, true, false}
-use mathlib.Core.List.{List, [], ◌∷◌}
-use lib.ListN.{length}
-use borrow.Author.Tests.{le-leb, lt-leb}
+use Rattle.std.proofs.Common.{◌≡◌, ℕ, ◌<◌, ◌≤◌, Bool, true, false, List, [], ◌∷◌, length, sym, ap, ◌∙◌, le-leb}
+use Rattle.std.proofs.lemmas.Bool.{lt-leb}
 use Rattle.secrets.specs.Choice.{every}
 use Rattle.label.specs.Numbers.{told_reading}
 use Rattle.label.specs.Label.{bad_at, walk_of, with_tag, is_field, is_good, complete, read_of, when_good}

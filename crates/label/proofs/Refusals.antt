@@ -1,11 +1,6 @@
 -- Reading a record and the rows of the table say the same: each refusal is given exactly when its row and the order say. Assumes nothing.
-use Prim.Native.Nat.{ℕ, zero, suc, ◌+◌, ◌≤◌, ◌<◌}
-use mathlib.Core.Path.{◌≡◌, refl, ◌∙◌, ap, subst}
-use mathlib.Core.Bool.{Bool, true, false}
-use mathlib.Core.List.{List, ◌++◌, append_assoc, append-nil}
-use native.Mathlib.Omega.{arith}
-use native.Mathlib.Decide.{dec_le, dec_lt}
-use lib.ListN.{length}
+use Rattle.std.proofs.Common.{◌≡◌, ℕ, zero, suc, ◌+◌, ◌<◌, ◌≤◌, Bool, true, false, List, ◌++◌, length, refl, ap, ◌∙◌, subst, append_assoc, append-nil, arith}
+use Rattle.std.proofs.Math.Decide.{dec_le, dec_lt}
 use Rattle.label.specs.Label.{bad_at, header_of, Walked, walk_of, with_tag, is_field, is_good, complete, read_of}
 use Rattle.label.specs.Rows.{Stands, LedTo, start, next, Reads, overlong, unreadable, missing_first, missing_second, good}
 use Rattle.label.specs.declared.field.Why.TheVariants.{Missing}

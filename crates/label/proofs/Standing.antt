@@ -1,11 +1,6 @@
 -- The header reading and the rows of the table say the same of a place. Assumes nothing.
-use Prim.Native.Nat.{ℕ, ◌+◌, ◌≤◌, ◌<◌}
-use mathlib.Core.Path.{◌≡◌, refl, subst}
-use mathlib.Core.Bool.{Bool, true, false}
-use mathlib.Core.List.{List}
-use native.Mathlib.Decide.{dec_le}
-use native.Mathlib.Nat.{lt_of_not-le}
-use lib.ListN.{length, get_or}
+use Rattle.std.proofs.Common.{◌≡◌, ℕ, ◌+◌, ◌<◌, ◌≤◌, Bool, true, false, List, length, get_or, refl, subst, lt_of_not-le}
+use Rattle.std.proofs.Math.Decide.{dec_le}
 use Rattle.rapidhash.specs.Words.{word}
 use Rattle.label.specs.Label.{table, header_of}
 use Rattle.label.specs.Rows.{Stands, header_cut, no_such_tag, not_above, length_short, length_long, value_cut, field}

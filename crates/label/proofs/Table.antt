@@ -1,9 +1,6 @@
 -- The rows of the table of fields, as the code's `match` tells them apart. Assumes nothing.
-use Prim.Native.Nat.{ℕ, ◌≤◌}
-use mathlib.Core.Path.{◌≡◌}
-use native.Mathlib.Omega.{arith}
-use lib.Dec.{leb}
-use borrow.Author.Tests.{le-leb, lt-leb, ne_eqb}
+use Rattle.std.proofs.Common.{◌≡◌, ℕ, ◌≤◌, leb, arith, ne_eqb, le-leb}
+use Rattle.std.proofs.lemmas.Bool.{lt-leb}
 use Rattle.secrets.specs.Choice.{pick}
 use Rattle.label.specs.Label.{lengths, no_field, table}
 

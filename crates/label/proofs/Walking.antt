@@ -1,14 +1,7 @@
 -- From field to field: the number of fields looked for does not matter once it is enough, so a walk goes on from its place alone.
 -- Assumes nothing.
-use Prim.Native.Nat.{ℕ, zero, suc, ◌+◌, ◌≤◌, ◌<◌}
-use mathlib.Core.Path.{◌≡◌, refl, sym, ◌∙◌}
-use mathlib.Core.Bool.{false}
-use mathlib.Core.List.{List, [], ◌∷◌}
-use native.Mathlib.Omega.{arith}
-use native.Mathlib.Decide.{dec_lt}
-use lib.Dec.{ltb}
-use lib.ListN.{length}
-use borrow.Author.Tests.{lt-ltb, le-ltb, eq-eqb, ne_eqb}
+use Rattle.std.proofs.Common.{◌≡◌, ℕ, zero, suc, ◌+◌, ◌<◌, ◌≤◌, false, ltb, List, [], ◌∷◌, length, sym, refl, ◌∙◌, arith, le-ltb, lt-ltb, eq-eqb, ne_eqb}
+use Rattle.std.proofs.Math.Decide.{dec_lt}
 use Rattle.rapidhash.proofs.Tests.{either}
 use Rattle.label.specs.Numbers.{told_lookup}
 use Rattle.label.specs.Label.{header_of, Walked, no_more, onward, walk_from, walk_of, not_listed, with_tag, is_field, sought_of}

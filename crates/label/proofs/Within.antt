@@ -1,10 +1,5 @@
 -- A field that is found lies in the record. Assumes nothing.
-use Prim.Native.Nat.{ℕ, zero, suc, ◌+◌, ◌≤◌}
-use mathlib.Core.Path.{◌≡◌, refl}
-use mathlib.Core.List.{List}
-use native.Mathlib.Omega.{arith}
-use lib.Dec.{eqb, ltb}
-use lib.ListN.{length}
+use Rattle.std.proofs.Common.{◌≡◌, ℕ, zero, suc, ◌+◌, ◌≤◌, eqb, ltb, List, length, refl, arith}
 use Rattle.rapidhash.proofs.Tests.{either}
 use Rattle.label.specs.Label.{header_of, Walked, onward, walk_from, walk_of, with_tag, start_of, length_of}
 use Rattle.label.specs.declared.field.Field.{Field}

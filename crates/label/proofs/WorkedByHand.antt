@@ -1,6 +1,5 @@
 -- The examples worked by hand, closed by computation. Assumes nothing.
-use mathlib.Core.Path.{◌≡◌, refl}
-use mathlib.Core.Bool.{true}
+use Rattle.std.proofs.Common.{◌≡◌, true, refl}
 use Rattle.secrets.specs.Choice.{every, all_are}
 use Rattle.rapidhash.specs.Words.{word}
 use Rattle.secrets.specs.Mix.{low, high, mum, mix}

@@ -1,11 +1,6 @@
 -- A field in a record, as it stands and as it is written. Assumes nothing.
-use Prim.Native.Nat.{ℕ, ◌+◌, ◌-◌, ◌*◌, ◌/◌, ◌%◌, ◌≤◌, ◌<◌}
-use mathlib.Core.Path.{◌≡◌, sym, ◌∙◌, ap}
-use mathlib.Core.List.{List, ◌∷◌, ◌++◌}
-use native.Mathlib.Omega.{arith}
-use native.Mathlib.Numerals.{add-one}
-use lib.ListN.{length, get_or, take, drop, length-append, length-take, length-drop, take-append-drop}
-use lib.Seq.{drop-cons, drop-drop, get_or-drop, take-append_seam, drop-append_seam}
+use Rattle.std.proofs.Common.{◌≡◌, ℕ, ◌+◌, ◌-◌, ◌*◌, ◌/◌, ◌%◌, ◌<◌, ◌≤◌, List, ◌∷◌, ◌++◌, length, get_or, take, drop, sym, ap, ◌∙◌, add-one, arith, length-append, length-drop, take-append-drop, length-take, get_or-drop, drop-cons, drop-drop}
+use Rattle.std.proofs.Math.Seq.{take-append_seam, drop-append_seam}
 use Rattle.rapidhash.specs.Words.{word}
 use Rattle.label.specs.Label.{value_of}
 use Rattle.label.specs.Good.{Plain, written, plain}

@@ -7,13 +7,13 @@ use prog.Routine.{Routine}
 use types.Logic.{Logic}
 use contract.Lifetimes.{Lfts}
 use contract.Monad.{Fun, fact, fact_i, fact_use}
+use Rattle.std.proofs.Common.{◌≡◌}
 use denote.Triple.Clauses.{Ended as Exits, AtExit, Clauses}
 use denote.Triple.Entry.{Args, Res}
 use Rattle.lent.specs.contracts.write as lent-write
 use Rattle.lent.specs.contracts.finish as lent-finish
 use Rattle.lent.specs.contracts.reset as lent-reset
 use Rattle.lent.specs.contracts.hash_of_two as hash-of-two
-use mathlib.Core.Path.{◌≡◌}
 use Rattle.secrets.proofs.Demand1.{one}
 use Rattle.stream.proofs.Demand1.{written, written_apart, ended_apart}
 

@@ -1,7 +1,6 @@
 -- Demand 3 of the lent hasher: in every run of its `write`, `finish` and `reset` from what `new` answers, where each answer and the state after it
 -- are any that the call's contract allows, it answers as a plain list of the accepted bytes. Assumes nothing.
-use mathlib.Core.Bool.{Bool}
-use mathlib.Core.List.{List}
+use Rattle.std.proofs.Common.{Bool, List}
 use seplogic.Ra.Ura.{Ura}
 use base.Logic.{SProp, ent, id⊢}
 use prog.Memory.{Memory}

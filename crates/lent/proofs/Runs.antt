@@ -1,8 +1,6 @@
 -- Runs of calls on a lent hasher, whatever functions it is lent to. Their contracts are clauses of the logic: in every model, what the steps of a
 -- run ensure, all together, entails that the run goes by the rules, and so as on a plain list of the accepted bytes. Assumes nothing.
-use Prim.Native.Nat.{ℕ}
-use mathlib.Core.Path.{◌≡◌}
-use mathlib.Core.List.{List}
+use Rattle.std.proofs.Common.{◌≡◌, ℕ, List}
 use seplogic.Ra.Ura.{Ura}
 use base.Logic.{SProp, ent, sep, emp, via}
 use contract.Lifetimes.{Lfts}

@@ -2,43 +2,49 @@
 ghost use Rattle.std.specs.Prelude.{◌≡◌, ◌<◌, length};
 
 use crate::states::message_byte;
-use libc::STDOUT_FILENO;
+use std::io;
 use stream::rapid_stream_hasher::{Finished, Outcome, RapidStreamHasher, Written};
 
 // A state, and what a write of each size says of it.
-pub(crate) fn tried(name: &[u8], h: RapidStreamHasher, sizes: &[u8]) {
-    before(name, h);
-    for i in 0..sizes.len() {
-        after(name, h, sizes[i]);
+pub(crate) fn tried(
+    rt: &impl Print,
+    name: &str,
+    h: RapidStreamHasher,
+    sizes: &[u8],
+) -> io::Result<()> {
+    before(rt, name, h)?;
+    for size in sizes {
+        after(rt, name, h, *size)?;
     }
+    Ok(())
 }
 
-fn before(name: &[u8], h: RapidStreamHasher) {
-    named(name, h);
-    shows_state(b" state", h);
-    named(name, h);
-    shows_finish(h.finish());
+fn before(rt: &impl Print, name: &str, h: RapidStreamHasher) -> io::Result<()> {
+    named(rt, name, h)?;
+    shows_state(rt, " state", h)?;
+    named(rt, name, h)?;
+    shows_finish(rt, h.finish())
 }
 
 // The state that a write of n bytes gives: where it refuses, the very one that was given.
-fn after(name: &[u8], h: RapidStreamHasher, n: u8) {
+fn after(rt: &impl Print, name: &str, h: RapidStreamHasher, n: u8) -> io::Result<()> {
     let w = written(h, n as usize);
     let next = w.state;
     let outcome = w.outcome;
-    named_after(name, h, n);
-    shows_write(outcome, next);
-    named_after(name, h, n);
-    shows_state(b" state", next);
-    named_after(name, h, n);
-    shows_finish(next.finish());
+    named_after(rt, name, h, n)?;
+    shows_write(rt, outcome, next)?;
+    named_after(rt, name, h, n)?;
+    shows_state(rt, " state", next)?;
+    named_after(rt, name, h, n)?;
+    shows_finish(rt, next.finish())
 }
 
 // After a reset every write goes as after an opening, whatever the state was.
-pub(crate) fn renewed(name: &[u8], h: RapidStreamHasher) {
+pub(crate) fn renewed(rt: &impl Print, name: &str, h: RapidStreamHasher) -> io::Result<()> {
     let next = h.reset();
-    named(name, h);
-    shows_state(b" reset", next);
-    after(name, next, 113);
+    named(rt, name, h)?;
+    shows_state(rt, " reset", next)?;
+    after(rt, name, next, 113)
 }
 
 // What a write brings goes on where a full buffer ends, so that no byte of it is one that waits.
@@ -60,66 +66,60 @@ fn message() -> [u8; 256]
 }
 
 // The case, and the flags where they are not those of the first run.
-fn named(name: &[u8], h: RapidStreamHasher) {
-    io::write_all(STDOUT_FILENO, name);
-    shows_flags(h.settings.protected);
+fn named(rt: &impl Print, name: &str, h: RapidStreamHasher) -> io::Result<()> {
+    print!(rt; "{name}")?;
+    shows_flags(rt, h.settings.protected)
 }
 
-fn named_after(name: &[u8], h: RapidStreamHasher, n: u8) {
-    io::write_all(STDOUT_FILENO, name);
-    number(b"+", n as u64);
-    shows_flags(h.settings.protected);
+fn named_after(rt: &impl Print, name: &str, h: RapidStreamHasher, n: u8) -> io::Result<()> {
+    print!(rt; "{name}+{n}")?;
+    shows_flags(rt, h.settings.protected)
 }
 
-fn shows_flags(protected: bool) {
+fn shows_flags(rt: &impl Print, protected: bool) -> io::Result<()> {
     if protected {
-        io::write_all(STDOUT_FILENO, b"-protected");
+        print!(rt; "-protected")?;
     }
+    Ok(())
 }
 
-fn shows_state(what: &[u8], h: RapidStreamHasher) {
-    io::write_all(STDOUT_FILENO, what);
-    place(h);
-    number(b" first ", h.buffer[16] as u64);
-    io::write_all(STDOUT_FILENO, b"\n");
+fn shows_state(rt: &impl Print, what: &str, h: RapidStreamHasher) -> io::Result<()> {
+    print!(rt; "{what}")?;
+    place(rt, h)?;
+    number(rt, " first ", h.buffer[16] as u64)?;
+    println!(rt)
 }
 
-fn shows_write(outcome: Outcome, next: RapidStreamHasher) {
+fn shows_write(rt: &impl Print, outcome: Outcome, next: RapidStreamHasher) -> io::Result<()> {
     match outcome {
-        Outcome::Took => said(0, 0),
-        Outcome::NotSound => said(1, 0),
-        Outcome::TooLong(room) => said(2, room),
+        Outcome::Took => said(rt, 0, 0)?,
+        Outcome::NotSound => said(rt, 1, 0)?,
+        Outcome::TooLong(room) => said(rt, 2, room)?,
     }
-    place(next);
-    io::write_all(STDOUT_FILENO, b"\n");
+    place(rt, next)?;
+    println!(rt)
 }
 
-fn said(n: u64, room: u64) {
-    number(b" write ", n);
-    number(b" ", room);
+fn said(rt: &impl Print, n: u64, room: u64) -> io::Result<()> {
+    print!(rt; " write {n} {room}")
 }
 
-fn shows_finish(found: Finished) {
+fn shows_finish(rt: &impl Print, found: Finished) -> io::Result<()> {
     match found {
-        Finished::Hash(hash, count) => hashed(0, hash, count),
-        Finished::NotSound => hashed(1, 0, 0),
+        Finished::Hash(hash, count) => hashed(rt, 0, hash, count),
+        Finished::NotSound => hashed(rt, 1, 0, 0),
     }
 }
 
-fn hashed(n: u64, hash: u64, count: u64) {
-    number(b" finish ", n);
-    io::write_all(STDOUT_FILENO, b" ");
-    io::print_hex(STDOUT_FILENO, hash, 16);
-    number(b" ", count);
-    io::write_all(STDOUT_FILENO, b"\n");
+fn hashed(rt: &impl Print, n: u64, hash: u64, count: u64) -> io::Result<()> {
+    println!(rt; " finish {n} {hash:016x} {count}")
 }
 
-fn place(h: RapidStreamHasher) {
-    number(b" waiting ", h.waiting as u64);
-    number(b" count ", h.count);
+fn place(rt: &impl Print, h: RapidStreamHasher) -> io::Result<()> {
+    number(rt, " waiting ", h.waiting as u64)?;
+    number(rt, " count ", h.count)
 }
 
-fn number(what: &[u8], n: u64) {
-    io::write_all(STDOUT_FILENO, what);
-    io::print_decimal(STDOUT_FILENO, n);
+fn number(rt: &impl Print, what: &str, n: u64) -> io::Result<()> {
+    print!(rt; "{what}{n}")
 }

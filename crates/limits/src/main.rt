@@ -2,11 +2,14 @@
 // name tells the count, by `k` or for the great ones by a word, and what waits, by `m`; `+n` is a write of n bytes to it,
 // and `-protected` the run with the other flags. The file `stdout` beside this folder was printed by an independent model
 // of the stream's rules, byte by byte, and not by this program: docs/ANSWERS.md says how.
+#![tactic(auto)]
+
 mod lines;
 mod states;
 
 use crate::lines::{renewed, tried};
 use crate::states::{opening, state, with_byte, with_lane};
+use std::io;
 
 // The most chunks that a sound state has mixed: with 15 bytes more the stream has 2^64 - 1.
 const MOST: u64 = 164703072086692425;
@@ -14,171 +17,187 @@ const MOST: u64 = 164703072086692425;
 // Makes lanes and a previous chunk's last bytes that no calls lead to.
 const FILL: u8 = 251;
 
-fn main() {
-    cases(false);
-    cases(true);
+fn main(rt: HostRuntime) -> io::Result<()> {
+    cases(&rt, false)?;
+    cases(&rt, true)
 }
 
-fn cases(protected: bool) {
-    waiting(protected);
-    before_first_chunk(protected);
-    after_first_chunk(protected);
-    behind_few(protected);
-    behind_most(protected);
-    longest(protected);
-    too_long(protected);
-    resets_of_sound(protected);
-    resets_of_unsound(protected);
+fn cases(rt: &impl Print, protected: bool) -> io::Result<()> {
+    waiting(rt, protected)?;
+    before_first_chunk(rt, protected)?;
+    after_first_chunk(rt, protected)?;
+    behind_few(rt, protected)?;
+    behind_most(rt, protected)?;
+    longest(rt, protected)?;
+    too_long(rt, protected)?;
+    resets_of_sound(rt, protected)?;
+    resets_of_unsound(rt, protected)
 }
 
 // A chunk is mixed only when a byte follows it. Where more wait than a chunk has, no byte of the buffer is unused, so that
 // the number alone is what is wrong.
-fn waiting(protected: bool) {
+fn waiting(rt: &impl Print, protected: bool) -> io::Result<()> {
     tried(
-        b"opening",
+        rt,
+        "opening",
         opening(protected),
         &[0, 16, 17, 112, 113, 224, 225],
-    );
-    tried(b"k0-m112", state(0, 112, 0, protected), &[0, 1, 112, 113]);
-    tried(b"k0-m113", state(0, 113, 0, protected), &[0, 1]);
+    )?;
+    tried(rt, "k0-m112", state(0, 112, 0, protected), &[0, 1, 112, 113])?;
+    tried(rt, "k0-m113", state(0, 113, 0, protected), &[0, 1])?;
     tried(
-        b"k0-mmax",
+        rt,
+        "k0-mmax",
         state(0, u64::MAX as usize, 0, protected),
         &[0, 1],
-    );
-    tried(b"k1-m113", state(1, 113, FILL, protected), &[1]);
+    )?;
+    tried(rt, "k1-m113", state(1, 113, FILL, protected), &[1])?;
     tried(
-        b"k1-mmax",
+        rt,
+        "k1-mmax",
         state(1, u64::MAX as usize, FILL, protected),
         &[1],
-    );
+    )
 }
 
 // One bit that tells of a chunk before the first.
-fn before_first_chunk(protected: bool) {
+fn before_first_chunk(rt: &impl Print, protected: bool) -> io::Result<()> {
     let h = state(0, 20, 0, protected);
-    tried(b"k0-m20", h, &[1]);
-    tried(b"k0-m20-lane-first", with_lane(h, 0, 1), &[1]);
+    tried(rt, "k0-m20", h, &[1])?;
+    tried(rt, "k0-m20-lane-first", with_lane(h, 0, 1), &[1])?;
     tried(
-        b"k0-m20-lane-last",
+        rt,
+        "k0-m20-lane-last",
         with_lane(h, 6, 0x8000000000000000),
         &[1],
-    );
-    tried(b"k0-m20-before-first", with_byte(h, 0, 1), &[1]);
-    tried(b"k0-m20-before-last", with_byte(h, 15, 128), &[1]);
+    )?;
+    tried(rt, "k0-m20-before-first", with_byte(h, 0, 1), &[1])?;
+    tried(rt, "k0-m20-before-last", with_byte(h, 15, 128), &[1])?;
     tried(
-        b"k0-m0-lane-last",
+        rt,
+        "k0-m0-lane-last",
         with_lane(opening(protected), 6, 1),
         &[0],
-    );
+    )?;
     tried(
-        b"k0-m0-before-last",
+        rt,
+        "k0-m0-before-last",
         with_byte(opening(protected), 15, 1),
         &[0],
-    );
+    )
 }
 
 // A byte must have followed the chunk. The last 16 bytes reach into the chunk until 16 have.
-fn after_first_chunk(protected: bool) {
-    tried(b"k1-m0", state(1, 0, FILL, protected), &[0, 1]);
-    tried(b"k1-m0-plain", state(1, 0, 0, protected), &[0]);
-    tried(b"k1-m1", state(1, 1, FILL, protected), &[0, 111, 112]);
-    tried(b"k1-m1-plain", state(1, 1, 0, protected), &[1]);
-    tried(b"k1-m15", state(1, 15, FILL, protected), &[1]);
-    tried(b"k1-m16", state(1, 16, FILL, protected), &[1]);
-    tried(b"k1-m17", state(1, 17, FILL, protected), &[1]);
-    tried(b"k1-m112", state(1, 112, FILL, protected), &[0, 1, 113]);
+fn after_first_chunk(rt: &impl Print, protected: bool) -> io::Result<()> {
+    tried(rt, "k1-m0", state(1, 0, FILL, protected), &[0, 1])?;
+    tried(rt, "k1-m0-plain", state(1, 0, 0, protected), &[0])?;
+    tried(rt, "k1-m1", state(1, 1, FILL, protected), &[0, 111, 112])?;
+    tried(rt, "k1-m1-plain", state(1, 1, 0, protected), &[1])?;
+    tried(rt, "k1-m15", state(1, 15, FILL, protected), &[1])?;
+    tried(rt, "k1-m16", state(1, 16, FILL, protected), &[1])?;
+    tried(rt, "k1-m17", state(1, 17, FILL, protected), &[1])?;
+    tried(rt, "k1-m112", state(1, 112, FILL, protected), &[0, 1, 113])
 }
 
 // The last byte that waits may be zero; the first behind it must be.
-fn behind_few(protected: bool) {
+fn behind_few(rt: &impl Print, protected: bool) -> io::Result<()> {
     let none = opening(protected);
-    tried(b"k0-m0-behind-first", with_byte(none, 16, 1), &[0]);
-    tried(b"k0-m0-behind-last", with_byte(none, 127, 1), &[0]);
+    tried(rt, "k0-m0-behind-first", with_byte(none, 16, 1), &[0])?;
+    tried(rt, "k0-m0-behind-last", with_byte(none, 127, 1), &[0])?;
     let some = state(0, 20, 0, protected);
-    tried(b"k0-m20-used-zero", with_byte(some, 35, 0), &[1]);
-    tried(b"k0-m20-behind-first", with_byte(some, 36, 1), &[1]);
-    tried(b"k0-m20-behind-last", with_byte(some, 127, 1), &[1]);
+    tried(rt, "k0-m20-used-zero", with_byte(some, 35, 0), &[1])?;
+    tried(rt, "k0-m20-behind-first", with_byte(some, 36, 1), &[1])?;
+    tried(rt, "k0-m20-behind-last", with_byte(some, 127, 1), &[1])?;
     let mixed = state(1, 20, FILL, protected);
-    tried(b"k1-m20-used-zero", with_byte(mixed, 35, 0), &[1]);
-    tried(b"k1-m20-behind-first", with_byte(mixed, 36, 128), &[1]);
-    tried(b"k1-m20-behind-last", with_byte(mixed, 127, 128), &[1]);
+    tried(rt, "k1-m20-used-zero", with_byte(mixed, 35, 0), &[1])?;
+    tried(rt, "k1-m20-behind-first", with_byte(mixed, 36, 128), &[1])?;
+    tried(rt, "k1-m20-behind-last", with_byte(mixed, 127, 128), &[1])
 }
 
 // The buffer's last byte: with 111 waiting the only unused one, with 112 a used one.
-fn behind_most(protected: bool) {
+fn behind_most(rt: &impl Print, protected: bool) -> io::Result<()> {
     tried(
-        b"k0-m111-behind-last",
+        rt,
+        "k0-m111-behind-last",
         with_byte(state(0, 111, 0, protected), 127, 1),
         &[1],
-    );
+    )?;
     tried(
-        b"k1-m111-behind-last",
+        rt,
+        "k1-m111-behind-last",
         with_byte(state(1, 111, FILL, protected), 127, 1),
         &[1],
-    );
+    )?;
     tried(
-        b"k0-m112-all-used",
+        rt,
+        "k0-m112-all-used",
         with_byte(state(0, 112, 0, protected), 127, 1),
         &[0],
-    );
+    )?;
     tried(
-        b"k1-m112-all-used",
+        rt,
+        "k1-m112-all-used",
         with_byte(state(1, 112, FILL, protected), 127, 1),
         &[0],
-    );
+    )
 }
 
 // Room for one byte, for none, and over the end of a chunk.
-fn longest(protected: bool) {
-    tried(b"most-m14", state(MOST, 14, FILL, protected), &[0, 1, 2]);
-    tried(b"most-m15", state(MOST, 15, FILL, protected), &[0, 1, 2]);
+fn longest(rt: &impl Print, protected: bool) -> io::Result<()> {
+    tried(rt, "most-m14", state(MOST, 14, FILL, protected), &[0, 1, 2])?;
+    tried(rt, "most-m15", state(MOST, 15, FILL, protected), &[0, 1, 2])?;
     tried(
-        b"under-m112",
+        rt,
+        "under-m112",
         state(MOST - 1, 112, FILL, protected),
         &[0, 15, 16],
-    );
+    )?;
     tried(
-        b"under-m1",
+        rt,
+        "under-m1",
         state(MOST - 1, 1, FILL, protected),
         &[111, 112, 126, 127],
-    );
+    )
 }
 
 // The last three counts are such that 112 times the count, taken in 64 bits, would wrap: to 96, to 0, and to 2^64 - 112.
-fn too_long(protected: bool) {
-    tried(b"most-m0", state(MOST, 0, FILL, protected), &[0]);
-    tried(b"most-m16", state(MOST, 16, FILL, protected), &[0, 1]);
-    tried(b"most-m112", state(MOST, 112, FILL, protected), &[0]);
-    tried(b"over-m1", state(MOST + 1, 1, FILL, protected), &[0, 1]);
+fn too_long(rt: &impl Print, protected: bool) -> io::Result<()> {
+    tried(rt, "most-m0", state(MOST, 0, FILL, protected), &[0])?;
+    tried(rt, "most-m16", state(MOST, 16, FILL, protected), &[0, 1])?;
+    tried(rt, "most-m112", state(MOST, 112, FILL, protected), &[0])?;
+    tried(rt, "over-m1", state(MOST + 1, 1, FILL, protected), &[0, 1])?;
     tried(
-        b"wrap-m1",
+        rt,
+        "wrap-m1",
         state(0x1000000000000000, 1, FILL, protected),
         &[0, 1],
-    );
-    tried(b"max-m1", state(u64::MAX, 1, FILL, protected), &[0, 1]);
+    )?;
+    tried(rt, "max-m1", state(u64::MAX, 1, FILL, protected), &[0, 1])
 }
 
-fn resets_of_sound(protected: bool) {
-    renewed(b"renewed-opening", opening(protected));
-    renewed(b"renewed-k0-m112", state(0, 112, 0, protected));
-    renewed(b"renewed-k1-m112", state(1, 112, FILL, protected));
-    renewed(b"renewed-most-m15", state(MOST, 15, FILL, protected));
+fn resets_of_sound(rt: &impl Print, protected: bool) -> io::Result<()> {
+    renewed(rt, "renewed-opening", opening(protected))?;
+    renewed(rt, "renewed-k0-m112", state(0, 112, 0, protected))?;
+    renewed(rt, "renewed-k1-m112", state(1, 112, FILL, protected))?;
+    renewed(rt, "renewed-most-m15", state(MOST, 15, FILL, protected))
 }
 
-fn resets_of_unsound(protected: bool) {
+fn resets_of_unsound(rt: &impl Print, protected: bool) -> io::Result<()> {
     renewed(
-        b"renewed-k0-mmax",
+        rt,
+        "renewed-k0-mmax",
         state(0, u64::MAX as usize, 0, protected),
-    );
+    )?;
     renewed(
-        b"renewed-k0-lane",
+        rt,
+        "renewed-k0-lane",
         with_lane(state(0, 20, 0, protected), 0, 1),
-    );
-    renewed(b"renewed-k1-m0", state(1, 0, FILL, protected));
+    )?;
+    renewed(rt, "renewed-k1-m0", state(1, 0, FILL, protected))?;
     renewed(
-        b"renewed-k1-behind",
+        rt,
+        "renewed-k1-behind",
         with_byte(state(1, 20, FILL, protected), 127, 1),
-    );
-    renewed(b"renewed-max-m1", state(u64::MAX, 1, FILL, protected));
+    )?;
+    renewed(rt, "renewed-max-m1", state(u64::MAX, 1, FILL, protected))
 }

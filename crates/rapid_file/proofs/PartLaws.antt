@@ -1,11 +1,6 @@
 -- What one part comes to, by what the read and the write say; and part after part. Assumes nothing.
-use Prim.Native.Nat.{ℕ, ◌-◌}
-use mathlib.Core.Path.{◌≡◌, refl}
-use mathlib.Core.Bool.{Bool, true, false, false≢true}
-use mathlib.Core.List.{List}
-use lib.Dec.{eqb}
-use lib.ListN.{take}
-use native.Mathlib.Omega.{arith}
+use Rattle.std.proofs.Common.{◌≡◌, ℕ, ◌-◌, Bool, true, false, eqb, List, take, refl, arith}
+use mathlib.Core.Bool.{false≢true}
 use Rattle.stream.specs.State.{said, answered, AfterWrite, write_of}
 use Rattle.stream.specs.declared.rapid_stream_hasher.RapidStreamHasher.{RapidStreamHasher}
 use Rattle.stream.specs.declared.rapid_stream_hasher.Outcome.{Outcome}

@@ -1,12 +1,7 @@
 -- What a reader of the file program looks for: where nothing failed, the stream has taken the bytes of all parts that were read, in
 -- order, and its hash is the hash of the input as one message. Assumes nothing.
-use Prim.Native.Nat.{ℕ, ◌+◌, ◌≤◌}
-use mathlib.Core.Path.{◌≡◌, refl, sym, ◌∙◌, ap}
-use mathlib.Core.Bool.{Bool, true, false, true≢false}
-use mathlib.Core.List.{List, [], ◌++◌}
-use native.Mathlib.Omega.{arith}
+use Rattle.std.proofs.Common.{◌≡◌, ℕ, ◌+◌, ◌≤◌, Bool, true, false, List, [], ◌++◌, length, sym, refl, ap, ◌∙◌, true≢false, arith, length-append}
 use native.Mathlib.Decide.{dec_le}
-use lib.ListN.{length, length-append}
 use Rattle.secrets.specs.Secrets.{seed_cpp}
 use Rattle.rapidhash.specs.Hash.{chunks, hash_of}
 use Rattle.stream.specs.State.{most, sound, opening_of, ended, finish_of}

@@ -1,11 +1,14 @@
 // The hash of standard input, as the Rust's v3/rapid_file: read into parts of 8,192 bytes, each filled before it is
 // written to the stream. Prints 16 hexadecimal digits, or `read failed` where a read fails, an interrupted one too, or the
 // input passes 2^64 - 1 bytes.
+#![tactic(auto)]
+
 ghost use Rattle.std.specs.Prelude.{◌≡◌, true, ◌<◌, ◌≤◌, length, take};
 ghost use Rattle.rapid_file.specs.Parts.{failed_with, progress_of, Came};
 
-use libc::{STDIN_FILENO, STDOUT_FILENO};
 use secrets::v3::seed::RapidSecrets;
+use std::io;
+use std::io::Read;
 use stream::rapid_stream_hasher::{Finished, Outcome, RapidStreamHasher};
 
 // A part of the input: its bytes, how many there are, whether more may follow, and whether a read failed.
@@ -25,19 +28,21 @@ struct Progress {
     failed: bool,
 }
 
-fn main() {
-    says(through_parts(RapidStreamHasher::new(RapidSecrets::default_secrets(), true, false)));
+fn main(rt: HostRuntime) -> io::Result<()> {
+    let opened = RapidStreamHasher::new(RapidSecrets::default_secrets(), true, false);
+    let mut input = rt.stdin();
+    says(&rt, through_parts(&mut input, opened))
 }
 
 // Part after part to the stream. The room left shrinks with each, so that even an endless input ends: behind the last full
 // part that fits there is room for 8,191 bytes, and the stream refuses more.
-fn through_parts(opened: RapidStreamHasher) -> Progress
+fn through_parts<R: Read>(input: &mut R, opened: RapidStreamHasher) -> Progress
     ensures { Came opened result }
 {
     let mut stream = opened;
     let mut room = u64::MAX;
     while 8192 <= room {
-        let progress = with_part(stream, next_part());
+        let progress = with_part(stream, next_part(input));
         let more = progress.more;
         if !more {
             return progress;
@@ -46,7 +51,7 @@ fn through_parts(opened: RapidStreamHasher) -> Progress
         stream = next;
         room -= 8192;
     }
-    with_part(stream, next_part())
+    with_part(stream, next_part(input))
 }
 
 // The stream with a part written to it, unless a read failed or the stream does not take it.
@@ -85,21 +90,19 @@ fn failed(stream: RapidStreamHasher) -> Progress
 }
 
 // The answer: the hash, or the fixed line.
-fn says(progress: Progress) {
+fn says(rt: &impl Print, progress: Progress) -> io::Result<()> {
     let stream = progress.stream;
     let finished = stream.finish();
     if !progress.failed {
         if let Finished::Hash(hash, _) = finished {
-            io::print_hex(STDOUT_FILENO, hash, 16);
-            io::write_all(STDOUT_FILENO, b"\n");
-            return;
+            return println!(rt; "{hash:016x}");
         }
     }
-    io::write_all(STDOUT_FILENO, b"read failed\n");
+    println!(rt; "read failed")
 }
 
 // Reads until the part is full, the input ends or a read fails.
-fn next_part() -> Part
+fn next_part<R: Read>(input: &mut R) -> Part
     ensures { (8192 ≡ length result.bytes) × (result.count ≤ 8192) }
 {
     let mut part = Part {
@@ -109,7 +112,7 @@ fn next_part() -> Part
         failed: false,
     };
     while part.count < 8192 {
-        let next = with_more(part);
+        let next = with_more(input, part);
         let more = next.more;
         if !more {
             return next;
@@ -120,19 +123,25 @@ fn next_part() -> Part
 }
 
 // One read, behind the bytes that are there, which stay.
-fn with_more(part: Part) -> Part
+fn with_more<R: Read>(input: &mut R, part: Part) -> Part
     requires { (8192 ≡ length part.bytes) × (part.count < 8192) }
     ensures { (8192 ≡ length result.bytes) × (result.count ≤ 8192) × (result.more ≡ true → part.count < result.count)
         × (take part.count result.bytes ≡ take part.count part.bytes) }
 {
     let mut bytes = part.bytes;
     let count = part.count;
-    let got = libc::read(STDIN_FILENO, &mut bytes[count..]);
-    let n = io::count(got, &bytes[count..]);
-    Part {
-        bytes,
-        count: count + n,
-        more: 0 < n,
-        failed: got < 0,
+    match input.read(&mut bytes[count..]) {
+        Ok(n) => Part {
+            bytes,
+            count: count + n,
+            more: 0 < n,
+            failed: false,
+        },
+        Err(_) => Part {
+            bytes,
+            count,
+            more: false,
+            failed: true,
+        },
     }
 }

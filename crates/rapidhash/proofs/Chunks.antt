@@ -1,13 +1,6 @@
 -- Whole chunks, once over L: what is left to do at a place, and how it changes by a chunk. Assumes nothing.
-use Prim.Native.Nat.{ℕ, zero, suc, ◌+◌, ◌-◌, ◌*◌, ◌/◌, ◌≤◌, ◌<◌}
-use mathlib.Core.Path.{◌≡◌, refl, ◌∙◌, ap, sym}
-use mathlib.Core.Bool.{Bool}
-use mathlib.Core.List.{List}
-use native.Mathlib.Omega.{arith}
-use native.Mathlib.Numerals.{add-one}
-use native.Mathlib.Nat.{div-eq_of_lt, div-eq-sub-div, lt-div-mul-add, mul-div-le, mul-suc}
-use lib.ListN.{length, take, drop}
-use lib.Seq.{drop-drop}
+use Rattle.std.proofs.Common.{◌≡◌, ℕ, suc, ◌+◌, ◌-◌, ◌*◌, ◌/◌, ◌<◌, ◌≤◌, Bool, List, length, take, drop, sym, refl, ap, ◌∙◌, mul-suc, add-one, arith, drop-drop}
+use native.Mathlib.Nat.{div-eq_of_lt, div-eq-sub-div, lt-div-mul-add, mul-div-le}
 use Rattle.rapidhash.specs.Hash.{lanes_of, chunks, chunk_step, lanes_after, mixed_of}
 use Rattle.rapidhash.specs.declared.v3.lanes.Mixed.{Mixed}
 use Rattle.rapidhash.specs.declared.v3.lanes.Size.{Size}

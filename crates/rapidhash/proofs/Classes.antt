@@ -1,21 +1,11 @@
 -- Which way the length leads: one law for each class, and for each way through a long message. Assumes nothing.
-use Prim.Native.Nat.{ℕ, ◌+◌, ◌-◌, ◌*◌, ◌/◌, ◌%◌, ◌^◌, ◌≤◌, ◌<◌}
-use mathlib.Core.Path.{◌≡◌}
-use mathlib.Core.Bool.{Bool}
-use mathlib.Core.List.{List}
-use native.Mathlib.Omega.{arith}
-use native.Mathlib.Nat.{le_refl}
-use lib.Bits.{bit_or, bit_xor}
-use lib.Dec.{ltb}
-use lib.ListN.{length, get_or, take, drop, replicate, length-drop}
-use lib.Seq.{take_all}
-use borrow.Author.Tests.{lt-ltb, le-ltb, le-leb, lt-leb, eq-eqb, ne_eqb}
+use Rattle.std.proofs.Common.{◌≡◌, ℕ, ◌-◌, ◌*◌, ◌/◌, ◌%◌, ◌^◌, ◌<◌, ◌≤◌, Bool, ltb, List, length, get_or, take, drop, replicate, bit_or, bit_xor, le_refl, arith, length-drop, take_all, le-ltb, lt-ltb, ne_eqb, le-leb}
+use borrow.Author.Tests.{lt-leb}
 use Rattle.rapidhash.specs.Words.{word}
-use Rattle.rapidhash.specs.Hash.{chunks, mixed_of, joined, turns, tail, tail_ends, reached_of, long_ends, ends_of}
+use Rattle.rapidhash.specs.Hash.{mixed_of, joined, turns, tail, tail_ends, reached_of, long_ends, ends_of}
 use Rattle.secrets.specs.declared.v3.seed.RapidSecrets.{RapidSecrets}
 use Rattle.rapidhash.specs.declared.v3.lanes.Mixed.{Mixed}
 use Rattle.rapidhash.specs.declared.v3.rapid_const.Reached.{Reached}
-use Rattle.rapidhash.specs.declared.v3.rapid_const.Ends.{Ends}
 use Rattle.rapidhash.proofs.Chunks.{chunks_within}
 use Rattle.rapidhash.proofs.Tests.{either}
 

@@ -1,13 +1,7 @@
 -- Demand 2: what the three hashes have in common. Each public hash is `hash_of` at 7, 5 or 3 by its contract. Assumes nothing.
-use Prim.Native.Nat.{ℕ, ◌*◌, ◌≤◌}
-use mathlib.Core.Path.{◌≡◌, ◌∙◌, sym}
-use mathlib.Core.Bool.{Bool}
-use mathlib.Core.List.{List}
+use Rattle.std.proofs.Common.{◌≡◌, ℕ, ◌*◌, ◌≤◌, Bool, List, length, sym, ◌∙◌, arith, Bor}
 use contract.Lifetimes.{Lfts}
-use denote.Ref.{Bor}
-use native.Mathlib.Omega.{arith}
-use lib.ListN.{length}
-use Rattle.rapidhash.specs.Hash.{reached_of, long_ends, ends_of, hash_of}
+use Rattle.rapidhash.specs.Hash.{long_ends, ends_of, hash_of}
 use Rattle.secrets.specs.declared.v3.seed.RapidSecrets.{RapidSecrets}
 use Rattle.rapidhash.proofs.Classes.{reached_none}
 use Rattle.rapidhash.proofs.v3.rapid_const.rapidhash_v3_inline.Reads as inline

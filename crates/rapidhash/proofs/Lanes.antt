@@ -1,15 +1,6 @@
 -- Lane by lane: two words into a lane, the first j lanes of a chunk's step and of their XOR, and one more. Assumes nothing.
-use Prim.Native.Nat.{ℕ, zero, suc, ◌+◌, ◌*◌, ◌≤◌, ◌<◌}
-use mathlib.Core.Path.{◌≡◌, refl, ◌∙◌, ap}
-use mathlib.Core.Logic.{◌≢◌}
-use mathlib.Core.Bool.{Bool}
-use mathlib.Core.List.{List}
-use native.Mathlib.Omega.{arith}
-use native.Mathlib.Numerals.{add-one}
-use lib.Bits.{bit_xor}
-use lib.ListN.{length, get_or, take, set, length-set}
-use lib.Seq.{get_or-set_other}
-use borrow.Author.Tests.{le-leb, lt-leb}
+use Rattle.std.proofs.Common.{◌≡◌, ℕ, zero, suc, ◌+◌, ◌*◌, ◌<◌, ◌≤◌, Bool, ◌≢◌, List, length, get_or, take, set, bit_xor, refl, ap, ◌∙◌, add-one, arith, length-set, get_or-set_other, le-leb}
+use borrow.Author.Tests.{lt-leb}
 use Rattle.secrets.specs.Mix.{mix}
 use Rattle.rapidhash.specs.Words.{word}
 use Rattle.rapidhash.specs.Hash.{mix_pair, chunk_step, first_of, joined}

@@ -1,11 +1,5 @@
 -- The two answers of a public read, once over the width n. Assumes nothing.
-use Prim.Native.Nat.{ℕ, ◌+◌, ◌≤◌}
-use mathlib.Core.Path.{◌≡◌, ◌∙◌, sym}
-use mathlib.Core.Bool.{Bool, true, false}
-use mathlib.Core.List.{List}
-use lib.Dec.{leb}
-use lib.ListN.{length}
-use borrow.Author.Tests.{leb-true}
+use Rattle.std.proofs.Common.{◌≡◌, ℕ, ◌+◌, ◌≤◌, Bool, true, false, leb, List, length, sym, ◌∙◌, leb-true}
 use Rattle.secrets.specs.Numbers.{done, past_end}
 use Rattle.rapidhash.specs.Words.{word, word_of}
 

@@ -1,11 +1,5 @@
 -- The tail's steps, and the last step: one law for each way on. Assumes nothing.
-use Prim.Native.Nat.{ℕ, ◌+◌, ◌*◌, ◌≤◌, ◌<◌}
-use mathlib.Core.Path.{◌≡◌, refl, ◌∙◌, sym}
-use mathlib.Core.Bool.{Bool, true, false}
-use mathlib.Core.List.{List, [], ◌∷◌}
-use lib.Bits.{bit_xor}
-use lib.ListN.{length, get_or}
-use borrow.Author.Tests.{lt-ltb, le-ltb}
+use Rattle.std.proofs.Common.{◌≡◌, ℕ, ◌+◌, ◌*◌, ◌<◌, ◌≤◌, Bool, true, false, List, [], ◌∷◌, length, get_or, bit_xor, refl, le-ltb, lt-ltb}
 use Rattle.secrets.specs.Mix.{mum}
 use Rattle.rapidhash.specs.Hash.{mix_pair, tail, avalanched, ends_of, last_of, hash_of}
 use Rattle.secrets.specs.declared.util.mix.Mum.{Mum}

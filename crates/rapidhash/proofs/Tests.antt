@@ -1,13 +1,8 @@
 -- A test of the code and a test of a definition that say the same. Assumes nothing.
-use Prim.Native.Nat.{ℕ, ◌+◌, ◌-◌, ◌≤◌, ◌<◌}
-use mathlib.Core.Path.{◌≡◌, sym, ◌∙◌}
-use mathlib.Core.Bool.{Bool, true, false}
-use native.Mathlib.Omega.{arith}
+use Rattle.std.proofs.Common.{◌≡◌, ℕ, ◌+◌, ◌-◌, ◌<◌, ◌≤◌, Bool, true, false, leb, sym, ◌∙◌, lt_of_not-le, arith, le-leb}
 use native.Mathlib.Decide.{dec_le}
-use native.Mathlib.Nat.{lt_of_not-le}
-use lib.Dec.{leb}
 use Rattle.secrets.specs.Choice.{pick}
-use borrow.Author.Tests.{le-leb, lt-leb}
+use borrow.Author.Tests.{lt-leb}
 
 -- two orders that follow from each other are one test
 pub same_leb : (a b c d : ℕ) → (a ≤ b → c ≤ d) → (c ≤ d → a ≤ b) → leb a b ≡ leb c d

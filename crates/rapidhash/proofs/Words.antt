@@ -1,10 +1,5 @@
 -- Words of bytes: how a word falls into shorter ones, and where it stands in a part. Assumes nothing.
-use Prim.Native.Nat.{ℕ, zero, suc, ◌+◌, ◌*◌, ◌^◌, ◌≤◌, ◌<◌}
-use mathlib.Core.Path.{◌≡◌, refl, ap}
-use mathlib.Core.List.{List, [], ◌∷◌}
-use native.Mathlib.Omega.{arith}
-use lib.ListN.{get_or, take, drop}
-use lib.Seq.{get_or-take, get_or-drop}
+use Rattle.std.proofs.Common.{◌≡◌, ℕ, zero, suc, ◌+◌, ◌*◌, ◌^◌, ◌<◌, ◌≤◌, List, [], ◌∷◌, get_or, take, drop, refl, ap, arith, get_or-drop, get_or-take}
 use Rattle.rapidhash.specs.Words.{word}
 
 -- four bytes weighed by their places are a word, with its bound

@@ -1,16 +1,7 @@
 -- Zero bytes by words: a word is zero exactly where its bytes are. Assumes nothing.
-use Prim.Native.Nat.{ℕ, zero, suc, ◌+◌, ◌-◌, ◌*◌, ◌^◌, ◌≤◌, ◌<◌}
-use mathlib.Core.Path.{◌≡◌, ◌∙◌, sym}
-use mathlib.Core.Bool.{Bool, true, false}
-use mathlib.Core.List.{List}
-use native.Mathlib.Omega.{arith}
-use native.Mathlib.Numerals.{add-one}
-use native.Mathlib.Nat.{eq-zero-or-pos, mul-pos, one-le-pow, le_refl}
-use mathlib.Core.Logic.{◌⊎◌, inl, inr}
-use lib.Dec.{eqb}
-use lib.ListN.{length, get_or, take, drop, length-drop}
-use lib.Seq.{drop-cons, drop-length, take_all}
-use borrow.Author.Tests.{eq-eqb, ne_eqb}
+use Rattle.std.proofs.Common.{◌≡◌, ℕ, zero, suc, ◌+◌, ◌-◌, ◌*◌, ◌^◌, ◌<◌, ◌≤◌, Bool, true, false, eqb, ◌⊎◌, List, length, get_or, take, drop, sym, ◌∙◌, inl, inr, le_refl, eq-zero-or-pos, mul-pos, add-one, arith, length-drop, take_all, drop-cons, eq-eqb, ne_eqb}
+use native.Mathlib.Nat.{one-le-pow}
+use lib.Seq.{drop-length}
 use Rattle.secrets.specs.Choice.{pick, all_are}
 use Rattle.rapidhash.specs.Words.{word}
 

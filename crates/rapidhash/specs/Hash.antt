@@ -1,5 +1,5 @@
 -- The three hashes, stated once over the number of lanes L (docs/RULES.md, section 4). Chunks have 16 L bytes. Assumes nothing.
-use Rattle.std.specs.Prelude.{ℕ, zero, suc, ◌+◌, ◌-◌, ◌*◌, ◌/◌, ◌^◌, Bool, true, false, List, [], ◌∷◌, map, eqb, leb, ltb, length, get_or, take, drop, set, replicate}
+use Rattle.std.specs.Prelude.{ℕ, zero, suc, ◌+◌, ◌-◌, ◌*◌, ◌/◌, ◌^◌, Bool, List, [], ◌∷◌, map, eqb, leb, ltb, length, get_or, take, drop, set, replicate}
 use Rattle.std.specs.Int.Bits.{bit_or, bit_xor}
 use Rattle.secrets.specs.Choice.{pick}
 use Rattle.rapidhash.specs.Words.{word}

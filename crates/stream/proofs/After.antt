@@ -1,10 +1,5 @@
 -- The state after bytes from an opening: what it holds, how many bytes it has gone by, and that it is sound. Assumes nothing.
-use Prim.Native.Nat.{ℕ, ◌+◌, ◌≤◌, ◌<◌}
-use mathlib.Core.Path.{◌≡◌, refl, ◌∙◌, sym}
-use mathlib.Core.Bool.{true}
-use mathlib.Core.List.{List, [], ◌++◌}
-use native.Mathlib.Omega.{arith}
-use lib.ListN.{length}
+use Rattle.std.proofs.Common.{◌≡◌, ℕ, ◌+◌, ◌<◌, ◌≤◌, true, List, [], ◌++◌, length, sym, refl, ◌∙◌, arith}
 use Rattle.stream.specs.Stream.{Stream, opened, feed}
 use Rattle.stream.specs.State.{most, sofar, hold, sound, opening_of, taken, reset_of}
 use Rattle.stream.specs.declared.rapid_stream_hasher.Settings.{Settings}

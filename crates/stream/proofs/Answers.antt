@@ -1,13 +1,8 @@
 -- What the code answers is what the rules of write and finish say. Assumes nothing.
-use Prim.Native.Nat.{ℕ, ◌+◌, ◌-◌, ◌*◌, ◌≤◌, ◌<◌}
-use mathlib.Core.Path.{◌≡◌, ◌∙◌, sym}
-use mathlib.Core.Bool.{Bool, true, false, not}
-use mathlib.Core.List.{List}
-use native.Mathlib.Omega.{arith}
-use lib.ListN.{length}
+use Rattle.std.proofs.Common.{◌≡◌, ℕ, ◌+◌, ◌-◌, ◌*◌, ◌<◌, ◌≤◌, Bool, true, false, not, List, length, sym, ◌∙◌, arith}
 use borrow.Author.Tests.{not-true, not-false}
 use Rattle.stream.specs.Stream.{stream_hash}
-use Rattle.stream.specs.State.{most, sofar, view, sound, taken, said, answered, write_of, ended, finish_of}
+use Rattle.stream.specs.State.{most, sofar, view, sound, taken, answered, write_of, ended, finish_of}
 use Rattle.stream.specs.declared.rapid_stream_hasher.RapidStreamHasher.{RapidStreamHasher}
 use Rattle.stream.specs.declared.rapid_stream_hasher.Outcome.TheVariants.{Took, NotSound, TooLong}
 use Rattle.stream.specs.declared.rapid_stream_hasher.Finished.TheVariants.{Hash, NotSound as Unsound}

@@ -1,17 +1,7 @@
 -- The buffer of 128 bytes: a part put into it, and what a state's buffer is as a stream. Assumes nothing.
-use Prim.Native.Nat.{ℕ, zero, suc, ◌+◌, ◌-◌, ◌*◌, ◌≤◌, ◌<◌}
-use mathlib.Core.Path.{◌≡◌, refl, ◌∙◌, ap, sym}
-use mathlib.Core.Bool.{Bool, true, false}
-use mathlib.Core.List.{List, [], ◌∷◌, ◌++◌, append_assoc, append-nil}
-use native.Mathlib.Omega.{arith}
-use native.Mathlib.Nat.{le_refl}
-use lib.Dec.{eqb}
-use borrow.Author.Tests.{eqb-true}
-use lib.ListN.{length, take, drop, replicate, length-append, length-drop, drop_of_length-le, take-append-drop}
-use lib.Seq.{take-length, drop-drop, take-add}
-use Rattle.secrets.specs.Choice.{pick, all_are}
+use Rattle.std.proofs.Common.{◌≡◌, ℕ, zero, suc, ◌+◌, ◌-◌, ◌≤◌, List, [], ◌++◌, length, take, drop, replicate, sym, append_assoc, append-nil, le_refl, arith, length-drop, drop_of_length-le, drop-drop}
+use lib.Seq.{take-length}
 use Rattle.stream.proofs.Clauses.{to_end}
-use Rattle.stream.proofs.Sound.{both}
 
 -- a part copied to a place of a buffer of n bytes, where it fits
 pub put_part : (b part y : List ℕ) (at n : ℕ) → length b ≡ n → at + length part ≤ n

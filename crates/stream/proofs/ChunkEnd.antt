@@ -1,18 +1,12 @@
 -- Whole chunks straight from the data, and what is left of it in a buffer of its own. Assumes nothing.
-use Prim.Native.Nat.{ℕ, ◌+◌, ◌-◌, ◌*◌, ◌/◌, ◌≤◌, ◌<◌}
-use mathlib.Core.Path.{◌≡◌, refl, ◌∙◌, ap, sym}
-use mathlib.Core.Bool.{Bool}
-use mathlib.Core.List.{List, [], ◌++◌, append_assoc}
-use native.Mathlib.Omega.{arith}
-use lib.ListN.{length, take, drop, replicate, length-drop}
-use lib.Seq.{take_at, drop-append-add}
+use Rattle.std.proofs.Common.{◌≡◌, ℕ, ◌+◌, ◌-◌, ◌*◌, ◌/◌, ◌<◌, ◌≤◌, Bool, List, [], ◌++◌, length, take, drop, replicate, sym, refl, ap, ◌∙◌, arith, length-drop, take_at}
+use lib.Seq.{drop-append-add}
 use Rattle.rapidhash.specs.Hash.{chunks, lanes_after, mixed_of}
 use Rattle.rapidhash.specs.declared.v3.lanes.Mixed.{Mixed}
 use Rattle.rapidhash.proofs.Chunks.{chunks_within, chunks_left}
 use Rattle.stream.specs.Stream.{Stream, slide, feed}
 use Rattle.stream.specs.State.{hold}
 use Rattle.stream.specs.declared.rapid_stream_hasher.Settings.{Settings}
-use Rattle.stream.specs.declared.rapid_stream_hasher.RapidStreamHasher.{RapidStreamHasher}
 use Rattle.stream.proofs.Buffer.{drop-zeros}
 use Rattle.stream.proofs.Clauses.{to_end}
 use Rattle.stream.proofs.Feed.{feed_chunks}

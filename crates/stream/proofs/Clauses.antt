@@ -1,14 +1,6 @@
 -- The clauses of soundness, each as the code comes to it. Assumes nothing.
-use Prim.Native.Nat.{ℕ, ◌+◌, ◌-◌, ◌*◌, ◌≤◌, ◌<◌}
-use mathlib.Core.Path.{◌≡◌, refl, ◌∙◌, sym}
-use mathlib.Core.Bool.{Bool, true, false, not}
-use mathlib.Core.List.{List, [], ◌∷◌}
-use native.Mathlib.Omega.{arith}
-use native.Mathlib.Nat.{le_refl}
-use lib.Dec.{leb, eqb}
-use lib.ListN.{length, take, drop, length-drop}
-use lib.Seq.{take_all}
-use borrow.Author.Tests.{le-leb, lt-leb, eq-eqb, ne_eqb, leb-true, not-true, not-false}
+use Rattle.std.proofs.Common.{◌≡◌, ℕ, ◌+◌, ◌-◌, ◌*◌, ◌<◌, ◌≤◌, Bool, true, false, not, eqb, leb, List, [], ◌∷◌, length, take, drop, sym, refl, ◌∙◌, le_refl, arith, length-drop, take_all, eq-eqb, ne_eqb, le-leb, leb-true}
+use borrow.Author.Tests.{lt-leb, not-true, not-false}
 use Rattle.secrets.specs.Choice.{pick, every, all_are}
 use Rattle.rapidhash.proofs.Tests.{same_leb}
 use Rattle.stream.proofs.Sound.{both}

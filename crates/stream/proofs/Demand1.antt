@@ -1,7 +1,6 @@
 -- Demand 1 for the stream: no contract leaves a choice. Two answers that one contract allows for the same state and bytes are equal.
 -- Assumes nothing.
-use mathlib.Core.Path.{◌≡◌, refl, ap}
-use lib.Dec.{eqb}
+use Rattle.std.proofs.Common.{◌≡◌, eqb, refl, ap}
 use Rattle.secrets.specs.Choice.{pick}
 use Rattle.secrets.proofs.Demand1.{OneAnswer, one, told_back}
 use Rattle.stream.specs.State.{Said, said, answered, Ended, ended}

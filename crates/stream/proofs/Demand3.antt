@@ -1,14 +1,9 @@
 -- What a reader of the stream looks for (demand 3): cuts do not matter, finish is the whole-message hash, sound states stay sound,
 -- a refusal changes nothing, any sequence of calls answers as on a plain list of the accepted bytes and leads to a sound state, and how many
 -- chunks there are at most. Of the definitions; `OfTheCode` carries it to the code. Assumes nothing.
-use Prim.Native.Nat.{ℕ, ◌+◌, ◌-◌, ◌*◌, ◌≤◌, ◌<◌}
-use mathlib.Core.Path.{◌≡◌, refl, ◌∙◌, ap, sym}
-use mathlib.Core.Bool.{true, false}
-use mathlib.Core.List.{List, [], ◌∷◌, ◌++◌}
-use native.Mathlib.Omega.{arith}
+use Rattle.std.proofs.Common.{◌≡◌, ℕ, ◌+◌, ◌-◌, ◌*◌, ◌<◌, ◌≤◌, true, false, List, [], ◌∷◌, ◌++◌, length, sym, refl, ap, ◌∙◌, arith, length-append, le-leb}
 use native.Mathlib.Decide.{dec_le}
-use lib.ListN.{length, length-append}
-use borrow.Author.Tests.{le-leb, lt-leb}
+use borrow.Author.Tests.{lt-leb}
 use Rattle.rapidhash.specs.Hash.{chunks, hash_of}
 use Rattle.stream.specs.Stream.{opened, feed}
 use Rattle.stream.specs.State.{most, sofar, view, hold, sound, opening_of, said, ended, AfterWrite, taken, write_of, finish_of, reset_of}

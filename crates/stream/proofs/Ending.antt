@@ -1,16 +1,7 @@
 -- The hash of a state in the parts that the code reads: the bytes that wait, and the last 16 that have gone by. Assumes nothing.
-use Prim.Native.Nat.{ℕ, zero, suc, ◌+◌, ◌-◌, ◌*◌, ◌≤◌}
-use mathlib.Core.Path.{◌≡◌, refl, ◌∙◌, sym}
-use mathlib.Core.Bool.{Bool}
-use mathlib.Core.List.{List, ◌++◌}
-use native.Mathlib.Omega.{arith}
-use lib.Bits.{bit_xor}
-use lib.ListN.{length, get_or, take, drop}
-use lib.Seq.{get_or-take, take-add}
-use borrow.Author.Tests.{eq-eqb, ne_eqb}
+use Rattle.std.proofs.Common.{◌≡◌, ℕ, ◌+◌, ◌-◌, ◌≤◌, ◌++◌, length, take, drop, bit_xor, sym, refl, ◌∙◌, arith, take-add, eq-eqb, ne_eqb}
 use Rattle.rapidhash.specs.Words.{word}
-use Rattle.rapidhash.specs.Hash.{joined, turns, tail, tail_ends, ends_of, last_of, hash_of}
-use Rattle.rapidhash.specs.declared.v3.rapid_const.Ends.{Ends}
+use Rattle.rapidhash.specs.Hash.{joined, turns, tail, tail_ends, last_of, hash_of}
 use Rattle.rapidhash.proofs.Words.{word-drop, word-take}
 use Rattle.stream.specs.Stream.{slide, stream_ends, stream_hash}
 use Rattle.stream.specs.State.{view}

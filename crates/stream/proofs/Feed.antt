@@ -1,13 +1,6 @@
 -- Byte after byte is chunk after chunk: what fits only waits, what waits in full is mixed by the next byte. Assumes nothing.
-use Prim.Native.Nat.{ℕ, zero, suc, ◌+◌, ◌-◌, ◌*◌, ◌≤◌, ◌<◌}
-use mathlib.Core.Path.{◌≡◌, refl, ◌∙◌, ap, sym}
-use mathlib.Core.Bool.{Bool}
-use mathlib.Core.List.{List, [], ◌∷◌, ◌++◌, append-nil}
-use native.Mathlib.Omega.{arith}
-use native.Mathlib.Nat.{mul-suc}
-use lib.ListN.{length, take, drop, length-append, length-drop, take-append-drop}
-use lib.Seq.{append_snoc, length-take-le, take-add, drop-drop}
-use borrow.Author.Tests.{eq-eqb, ne_eqb}
+use Rattle.std.proofs.Common.{◌≡◌, ℕ, zero, suc, ◌+◌, ◌-◌, ◌*◌, ◌<◌, ◌≤◌, Bool, List, [], ◌∷◌, ◌++◌, length, take, drop, sym, refl, ap, ◌∙◌, append-nil, mul-suc, arith, length-append, length-drop, take-append-drop, length-take-le, drop-drop, take-add, eq-eqb, ne_eqb}
+use lib.Seq.{append_snoc}
 use Rattle.rapidhash.specs.Hash.{chunks, lanes_after}
 use Rattle.rapidhash.proofs.Chunks.{chunks_before, chunks_left}
 use Rattle.stream.specs.Stream.{Stream, slide, mixed_in, with_byte, push, feed}

@@ -1,13 +1,6 @@
 -- What every stream from an opening has, and how many bytes it has gone by; each byte keeps the first and adds one to the second. Assumes nothing.
-use Prim.Native.Nat.{ℕ, ◌+◌, ◌*◌, ◌≤◌, ◌<◌}
-use mathlib.Core.Path.{◌≡◌, refl, ◌∙◌}
-use mathlib.Core.Bool.{Bool, true}
-use mathlib.Core.List.{List, [], ◌∷◌}
-use native.Mathlib.Omega.{arith}
+use Rattle.std.proofs.Common.{◌≡◌, ℕ, ◌+◌, ◌*◌, ◌<◌, ◌≤◌, Bool, true, List, [], ◌∷◌, length, refl, ◌∙◌, mul-suc, arith, length-append, eq-eqb, ne_eqb}
 use native.Mathlib.Decide.{dec_le}
-use native.Mathlib.Nat.{mul-suc}
-use lib.ListN.{length, length-append}
-use borrow.Author.Tests.{eq-eqb, ne_eqb}
 use Rattle.secrets.specs.Choice.{all_are}
 use Rattle.stream.specs.Stream.{Stream, opened, mixed_in, with_byte, push, feed}
 use Rattle.stream.proofs.Slide.{slide-length}

@@ -1,13 +1,6 @@
 -- A state and its stream: a sound state holds exactly a stream such as from an opening that is not too long. Assumes nothing.
-use Prim.Native.Nat.{ℕ, zero, suc, ◌+◌, ◌-◌, ◌≤◌}
-use mathlib.Core.Path.{◌≡◌, refl, ◌∙◌, ap}
-use mathlib.Core.Bool.{true}
-use mathlib.Core.List.{List, [], ◌∷◌, ◌++◌, append_assoc}
-use native.Mathlib.Omega.{arith}
-use lib.Dec.{eqb}
-use lib.ListN.{length, take, drop, replicate, length-append, length-drop, take-append-drop}
-use lib.Seq.{take_at, drop_at, take-append_seam, length-take-le, take-add}
-use borrow.Author.Tests.{eq-eqb, eqb-true}
+use Rattle.std.proofs.Common.{◌≡◌, ℕ, zero, suc, ◌+◌, ◌-◌, ◌≤◌, true, eqb, List, [], ◌∷◌, ◌++◌, length, take, drop, replicate, refl, ap, ◌∙◌, append_assoc, arith, length-append, length-drop, take-append-drop, length-take-le, take_at, take-add, drop_at, eq-eqb, eqb-true}
+use lib.Seq.{take-append_seam}
 use Rattle.secrets.specs.Choice.{all_are}
 use Rattle.stream.specs.Stream.{Stream, opened}
 use Rattle.stream.specs.State.{most, sofar, view, hold, opening_of, sound}

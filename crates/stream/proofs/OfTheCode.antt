@@ -1,11 +1,7 @@
 -- Demand 3 of the code itself: in every run of `write`, `finish` and `reset` from what `new` answers, where each answer is any that the call's
 -- contract allows, the stream answers as a plain list of the accepted bytes. Assumes nothing.
-use Prim.Native.Nat.{ℕ}
-use mathlib.Core.Path.{◌≡◌}
-use mathlib.Core.Bool.{Bool}
-use mathlib.Core.List.{List}
+use Rattle.std.proofs.Common.{ℕ, Bool, List, Bor}
 use contract.Lifetimes.{Lfts}
-use denote.Ref.{Bor}
 use Rattle.secrets.specs.declared.v3.seed.RapidSecrets.{RapidSecrets}
 use Rattle.stream.specs.State.{AfterWrite, answered, Ended, ended}
 use Rattle.stream.specs.Calls.{Call, Ran}

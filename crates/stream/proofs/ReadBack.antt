@@ -1,10 +1,5 @@
 -- A word that is known to be there, out of the answer of a public read. Assumes nothing.
-use Prim.Native.Nat.{ℕ, ◌+◌, ◌≤◌}
-use mathlib.Core.Path.{◌≡◌, ◌∙◌, ap, sym}
-use mathlib.Core.List.{List}
-use native.Mathlib.Omega.{arith}
-use lib.ListN.{length}
-use borrow.Author.Tests.{le-leb}
+use Rattle.std.proofs.Common.{◌≡◌, ℕ, ◌+◌, ◌≤◌, List, length, sym, ap, ◌∙◌, arith, le-leb}
 use Rattle.secrets.specs.Numbers.{Returned, returned, done}
 use Rattle.rapidhash.specs.Words.{word, word_of}
 use Rattle.secrets.specs.declared.util.found.Found.{Found}

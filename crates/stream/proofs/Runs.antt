@@ -1,9 +1,6 @@
 -- Runs of calls, whatever makes the calls: by value, lent or exported. One law carries demand 3 over to each: a run whose every step goes by the
 -- rules goes as on a plain list of the accepted bytes. Assumes nothing.
-use Prim.Native.Nat.{ℕ, ◌≤◌, ◌<◌}
-use mathlib.Core.Path.{◌≡◌, refl, ◌∙◌}
-use mathlib.Core.Bool.{true}
-use mathlib.Core.List.{List, [], ◌∷◌}
+use Rattle.std.proofs.Common.{◌≡◌, ℕ, ◌<◌, ◌≤◌, true, List, [], ◌∷◌, refl, ◌∙◌}
 use Rattle.stream.specs.State.{sound, AfterWrite, Ended, taken, opening_of, write_of, finish_of, reset_of}
 use Rattle.stream.specs.Calls.{Call, write, finish, reset, wrote, finished, did_reset, Ran, first, on_states, on_list}
 use Rattle.stream.specs.declared.rapid_stream_hasher.Settings.{Settings}

@@ -1,7 +1,6 @@
 -- The size that the code is for: seven lanes, as the full hash has. The laws below it are over L; those beside it join them to the code.
 -- Assumes nothing.
-use Prim.Native.Nat.{ℕ, ◌*◌, ◌/◌, ◌≤◌, ◌<◌}
-use native.Mathlib.Omega.{arith}
+use Rattle.std.proofs.Common.{ℕ, ◌*◌, ◌/◌, ◌<◌, ◌≤◌, arith}
 use Rattle.stream.specs.State.{most}
 
 -- its lanes

@@ -1,10 +1,6 @@
 -- The last bytes of what has gone by: in parts as at once, and of what is long enough its own end. Assumes nothing.
-use Prim.Native.Nat.{ℕ, ◌+◌, ◌-◌, ◌≤◌, ◌<◌}
-use mathlib.Core.Path.{◌≡◌, ◌∙◌, ap, sym}
-use mathlib.Core.List.{List, [], ◌++◌, append-nil, append_assoc}
-use native.Mathlib.Omega.{arith}
-use lib.ListN.{length, take, drop, length-append, length-drop}
-use lib.Seq.{drop-append-le, drop-append-add, drop-drop, drop_at, take-add, length-take-le}
+use Rattle.std.proofs.Common.{◌≡◌, ℕ, ◌+◌, ◌-◌, ◌<◌, ◌≤◌, List, [], ◌++◌, length, take, drop, sym, ap, ◌∙◌, append_assoc, append-nil, arith, length-append, length-drop, length-take-le, drop-drop, take-add, drop_at}
+use lib.Seq.{drop-append-le, drop-append-add}
 use Rattle.stream.specs.Stream.{slide}
 
 -- as many bytes as before

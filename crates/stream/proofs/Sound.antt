@@ -1,12 +1,7 @@
 -- The tests of a sound state, each as the fact that it tells, and the most chunks that they leave room for. Assumes nothing.
-use Prim.Native.Nat.{ℕ, ◌+◌, ◌*◌, ◌/◌, ◌%◌, ◌≤◌, ◌<◌}
-use mathlib.Core.Path.{◌≡◌, refl}
-use mathlib.Core.Bool.{Bool, true, false}
-use native.Mathlib.Omega.{arith}
-use native.Mathlib.Nat.{div-add-mod, le-div_iff_mul-le}
-use lib.Dec.{eqb, leb}
-use lib.ListN.{take, drop}
-use borrow.Author.Tests.{le-leb, leb-true, eq-eqb, ne_eqb, eqb-true, eqb-false}
+use Rattle.std.proofs.Common.{◌≡◌, ℕ, ◌+◌, ◌*◌, ◌/◌, ◌%◌, ◌<◌, ◌≤◌, Bool, true, false, eqb, leb, take, drop, refl, le-div_iff_mul-le, arith, eq-eqb, ne_eqb, eqb-true, le-leb, leb-true}
+use native.Mathlib.Nat.{div-add-mod}
+use borrow.Author.Tests.{eqb-false}
 use Rattle.secrets.specs.Choice.{pick, all_are}
 use Rattle.stream.specs.State.{most, sofar, sound}
 use Rattle.stream.specs.declared.rapid_stream_hasher.RapidStreamHasher.{RapidStreamHasher}

@@ -1,14 +1,6 @@
 -- A stream that has taken a message gives the hash of the message. Assumes nothing.
-use Prim.Native.Nat.{ℕ, zero, suc, ◌+◌, ◌-◌, ◌*◌, ◌≤◌, ◌<◌}
-use mathlib.Core.Path.{◌≡◌, refl, ◌∙◌, ap}
-use mathlib.Core.Bool.{Bool}
-use mathlib.Core.List.{List}
-use native.Mathlib.Omega.{arith}
+use Rattle.std.proofs.Common.{◌≡◌, ℕ, suc, ◌+◌, ◌-◌, ◌*◌, ◌<◌, ◌≤◌, Bool, List, length, take, drop, replicate, refl, ap, ◌∙◌, arith, take-append-drop, lt-ltb, ne_eqb}
 use native.Mathlib.Decide.{dec_le}
-use lib.ListN.{length, take, drop, replicate, take-append-drop}
-use lib.Seq.{get_or-drop}
-use borrow.Author.Tests.{lt-ltb, ne_eqb}
-use Rattle.rapidhash.specs.Words.{word}
 use Rattle.rapidhash.specs.Hash.{chunks, mixed_of, reached_of, long_ends, ends_of, last_of, hash_of}
 use Rattle.secrets.specs.declared.v3.seed.RapidSecrets.{RapidSecrets}
 use Rattle.rapidhash.proofs.Chunks.{chunks_more}

@@ -1,23 +1,14 @@
 -- What the code of a write makes is what the rule feeds: bytes that wait, a chunk that is filled, and chunks straight from the data.
 -- Assumes nothing.
-use Prim.Native.Nat.{ℕ, zero, suc, ◌+◌, ◌-◌, ◌*◌, ◌/◌, ◌≤◌, ◌<◌}
-use mathlib.Core.Path.{◌≡◌, refl, ◌∙◌, ap, sym}
-use mathlib.Core.Bool.{Bool, true}
-use mathlib.Core.List.{List, [], ◌∷◌, ◌++◌, append_assoc, append-nil}
-use native.Mathlib.Omega.{arith}
-use native.Mathlib.Nat.{le_refl}
-use lib.ListN.{length, take, drop, replicate, length-append, length-drop, take-append-drop}
-use borrow.Author.Tests.{le-leb}
-use lib.Seq.{take_at, take_all, drop_at, drop-append-add, length-take-le}
-use Rattle.rapidhash.specs.Hash.{chunk_step, first_of, mixed_of}
-use Rattle.rapidhash.specs.declared.v3.lanes.Mixed.{Mixed}
+use Rattle.std.proofs.Common.{◌≡◌, ℕ, ◌+◌, ◌-◌, ◌<◌, ◌≤◌, Bool, true, List, [], ◌++◌, length, take, drop, replicate, sym, refl, ap, ◌∙◌, append_assoc, append-nil, le_refl, arith, length-append, length-drop, take-append-drop, length-take-le, take_all, take_at, drop_at, le-leb}
+use lib.Seq.{drop-append-add}
+use Rattle.rapidhash.specs.Hash.{chunk_step, first_of}
 use Rattle.stream.specs.Stream.{Stream, slide, mixed_in, feed}
-use Rattle.stream.specs.State.{most, sofar, view, hold, sound, taken}
-use Rattle.stream.specs.declared.rapid_stream_hasher.Settings.{Settings}
+use Rattle.stream.specs.State.{view, hold, sound, taken}
 use Rattle.stream.specs.declared.rapid_stream_hasher.RapidStreamHasher.{RapidStreamHasher}
 use Rattle.stream.proofs.Buffer.{drop-zeros}
 use Rattle.stream.proofs.Clauses.{to_end}
-use Rattle.stream.proofs.Feed.{feed-append, feed_short, feed_next, feed_chunks}
+use Rattle.stream.proofs.Feed.{feed-append, feed_short, feed_next}
 use Rattle.stream.proofs.Hold.{waits, good-view, hold-view}
 use Rattle.stream.proofs.Sound.{sound_facts}
 use Rattle.stream.proofs.Seven.{lanes, width, few_lanes}

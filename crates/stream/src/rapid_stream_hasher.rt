@@ -312,7 +312,7 @@ fn put(buffer: Buffer, at: usize, part: &[u8]) -> Buffer
     ensures { result ≡ take at buffer ++ part.now ++ drop (at + length part.now) buffer }
 {
     let mut next = buffer;
-    bytes::copy(part, &mut next[at..]);
+    next[at..at + part.len()].copy_from_slice(part);
     next
 }
 

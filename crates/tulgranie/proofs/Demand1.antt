@@ -1,5 +1,5 @@
 -- Demand 1 for the library: no contract leaves a choice. Two answers that one contract allows for the same input are equal. Assumes nothing.
-use mathlib.Core.Path.{◌≡◌, refl}
+use Rattle.std.proofs.Common.{◌≡◌, refl}
 use seplogic.Ra.Ura.{Ura}
 use base.Logic.{SProp}
 use prog.Memory.{Memory}

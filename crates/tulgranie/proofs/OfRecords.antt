@@ -1,9 +1,7 @@
 -- What is proved of label records, of the exported calls: of any answer that the contracts of `tulgranie_read`, `tulgranie_find` and
 -- `tulgranie_fingerprint` allow. Assumes nothing.
-use Prim.Native.Nat.{ℕ, ◌≤◌}
-use mathlib.Core.Path.{◌≡◌, ◌∙◌, ap}
-use mathlib.Core.Bool.{true, false}
-use mathlib.Core.List.{List, ◌++◌, flatten}
+use Rattle.std.proofs.Common.{◌≡◌, ℕ, ◌≤◌, true, false, List, ◌++◌, length, take, ap, ◌∙◌, Bor}
+use mathlib.Core.List.{flatten}
 use seplogic.Ra.Ura.{Ura}
 use base.Logic.{SProp, ent, via}
 use prog.Memory.{Memory}
@@ -11,8 +9,6 @@ use prog.Routine.{Routine}
 use types.Logic.{Logic}
 use contract.Lifetimes.{Lfts}
 use contract.Monad.{Fun, fact, fact_mono}
-use denote.Ref.{Bor}
-use lib.ListN.{length, take}
 use Rattle.secrets.specs.declared.v3.seed.RapidSecrets.{RapidSecrets}
 use Rattle.rapidhash.specs.Hash.{chunks, hash_of}
 use Rattle.stream.specs.State.{opening_of}

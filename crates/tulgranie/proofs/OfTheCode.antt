@@ -1,8 +1,7 @@
 -- Demand 3 of the library: in every run of `tulgranie_stream_write`, `tulgranie_stream_finish` and `tulgranie_stream_reset` from what
 -- `tulgranie_stream_open` answers, where each answer and the state after it are any that the call's contract allows, the stream answers as a plain
 -- list of the accepted bytes. Assumes nothing.
-use mathlib.Core.Bool.{Bool}
-use mathlib.Core.List.{List}
+use Rattle.std.proofs.Common.{Bool, List}
 use seplogic.Ra.Ura.{Ura}
 use base.Logic.{SProp, ent, id⊢}
 use prog.Memory.{Memory}

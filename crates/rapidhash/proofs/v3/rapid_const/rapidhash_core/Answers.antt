@@ -1,0 +1,6 @@
+-- The last step on the ends. Assumes nothing.
+use Rattle.rapidhash.proofs.Steps.{hash_steps}
+use Rattle.rapidhash.proofs.v3.rapid_const.rapidhash_core.Goals as goal
+
+pub returns : goal.returns
+returns c = search hash_steps
