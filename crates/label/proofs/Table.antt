@@ -1,5 +1,6 @@
 -- The rows of the table of fields, as the code's `match` tells them apart. Assumes nothing.
-use Rattle.std.proofs.Common.{◌≡◌, ℕ, ◌≤◌, leb, arith, ne_eqb, le-leb}
+use Rattle.std.proofs.Common.{◌≡◌, ℕ, ◌<◌, ◌≤◌, leb, arith, ne_eqb, le-leb}
+use Rattle.std.proofs.Math.Decide.{dec_lt}
 use Rattle.std.proofs.lemmas.Bool.{lt-leb}
 use Rattle.secrets.specs.Choice.{pick}
 use Rattle.label.specs.Label.{lengths, no_field, table}
@@ -19,3 +20,11 @@ no_field_lem t l h = rw (past_four t l, lt-leb 128 t (omega arith))
 pub no_field_zero : (t : ℕ) → t ≡ 0 → table t ≡ no_field
 unfolding table
 no_field_zero t e = rw e
+
+-- both, as one arm of the `match` has them
+pub no_field_below_five : (t : ℕ) → t ≤ 127 → (t < 5 → t ≡ 0) → table t ≡ no_field
+no_field_below_five t h low = go (dec_lt t 5)
+  where
+    go : Dec (t < 5) → table t ≡ no_field
+    go (yes k) = no_field_zero t (low k)
+    go (no k) = no_field_lem t (omega arith) h

@@ -1,9 +1,8 @@
 -- One row of the table for each arm of the `match`. Assumes nothing.
-use Rattle.std.proofs.Common.{sym, ◌∙◌, ap, arith}
+use Rattle.std.proofs.Common.{◌≡◌, ◌<◌, sym, ◌∙◌, ap, arith}
 use Rattle.label.specs.Label.{table}
-use Rattle.label.proofs.Table.{later_use, no_field_lem, no_field_zero}
+use Rattle.label.proofs.Table.{later_use, no_field_below_five}
 use Rattle.label.proofs.field.lengths_of.Goals as goal
-use Rattle.label.proofs.field.lengths_of.Goals.{in-0-1, in_default+then-tag-lt128}
 
 pub returns-in-1 : goal.returns-in-1
 unfolding table
@@ -26,8 +25,5 @@ returns-in_default c = c.between-in_default.ensures ∙ sym (later_use _ (omega 
 
 pub returns-in-0 : goal.returns-in-0
 returns-in-0 c =
-    c.no_field.ensures
-    ∙ elim c.in-0-1.branch [
-      | in-0-1 w ↦ sym (no_field_zero _ (omega arith))
-      | in_default+then-tag-lt128 w ↦ sym (no_field_lem _ (omega arith) (omega arith))
-    ]
+    let low : c.args.tag < 5 → c.args.tag ≡ 0 = λ h. grind arith in
+    c.no_field.ensures ∙ sym (no_field_below_five _ (omega arith) low)
