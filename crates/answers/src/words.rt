@@ -92,8 +92,8 @@ pub(crate) fn secrets_of(line: &[u8], from: usize) -> RapidSecrets
 
 pub(crate) fn number_of(text: &[u8]) -> u64 {
     let mut n = 0;
-    for i in 0..text.len() {
-        n = n << 4 | digit(text[i]) as u64;
+    for glyph in text {
+        n = n << 4 | digit(*glyph) as u64;
     }
     n
 }
@@ -109,8 +109,8 @@ pub(crate) fn length_of(text: &[u8]) -> usize
     ensures { result ≤ 1000 }
 {
     let mut n = 0;
-    for i in 0..text.len() {
-        n = least(n * 10 + digit(text[i]) as usize, 1000);
+    for glyph in text {
+        n = least(n * 10 + digit(*glyph) as usize, 1000);
     }
     n
 }

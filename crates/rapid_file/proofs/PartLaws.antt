@@ -1,7 +1,7 @@
 -- What one part comes to, by what the read and the write say; and part after part. Assumes nothing.
-use Rattle.std.proofs.Common.{◌≡◌, ℕ, ◌-◌, Bool, true, false, eqb, List, take, refl, arith}
+use Rattle.std.proofs.Common.{◌≡◌, ◌-◌, Bool, true, false, eqb, take, refl, arith}
 use mathlib.Core.Bool.{false≢true}
-use Rattle.stream.specs.State.{said, answered, AfterWrite, write_of}
+use Rattle.stream.specs.State.{said, answered, write_of}
 use Rattle.stream.specs.declared.rapid_stream_hasher.RapidStreamHasher.{RapidStreamHasher}
 use Rattle.stream.specs.declared.rapid_stream_hasher.Outcome.{Outcome}
 use Rattle.stream.specs.declared.rapid_stream_hasher.Outcome.TheVariants.{Took}

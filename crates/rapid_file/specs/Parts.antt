@@ -2,7 +2,7 @@
 -- another. Assumes nothing.
 use Rattle.std.specs.Prelude.{ℕ, ◌≡◌, true, false, List, [], ◌++◌, eqb, take}
 use Rattle.secrets.specs.Choice.{pick}
-use Rattle.stream.specs.State.{AfterWrite, write_of}
+use Rattle.stream.specs.State.{write_of}
 use Rattle.stream.specs.declared.rapid_stream_hasher.RapidStreamHasher.{RapidStreamHasher}
 use Rattle.rapid_file.specs.declared.Part.{Part}
 use Rattle.rapid_file.specs.declared.Progress.{Progress}
