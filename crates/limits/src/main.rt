@@ -43,7 +43,12 @@ fn waiting(rt: &impl Print, protected: bool) -> io::Result<()> {
         opening(protected),
         &[0, 16, 17, 112, 113, 224, 225],
     )?;
-    tried(rt, "k0-m112", state(0, 112, 0, protected), &[0, 1, 112, 113])?;
+    tried(
+        rt,
+        "k0-m112",
+        state(0, 112, 0, protected),
+        &[0, 1, 112, 113],
+    )?;
     tried(rt, "k0-m113", state(0, 113, 0, protected), &[0, 1])?;
     tried(
         rt,
