@@ -77,7 +77,8 @@ long_ends L p x s =
 unfoldable pub ends_of : ℕ → Bool → RapidSecrets → List ℕ → Ends
 ends_of L p x s =
     pick (eqb (length s) 0) (record { a = 0; b = 0; seed = x.seed; r = length s })
-    (pick (leb (length s) 3) (record { a = bit_or (get_or s 0 0 * 2 ^ 45) (get_or s (length s - 1) 0); b = get_or s (length s / 2) 0; seed = x.seed; r = length s })
+    (pick (leb (length s) 3)
+    (record { a = bit_or (get_or s 0 0 * 2 ^ 45) (get_or s (length s - 1) 0); b = get_or s (length s / 2) 0; seed = x.seed; r = length s })
     (pick (leb (length s) 7) (record { a = word 4 s 0; b = word 4 s (length s - 4); seed = bit_xor x.seed (length s); r = length s })
     (pick (leb (length s) 16) (record { a = word 8 s 0; b = word 8 s (length s - 8); seed = bit_xor x.seed (length s); r = length s })
     (long_ends L p x s))))
