@@ -32,7 +32,7 @@ pub fn write(hasher: &mut RapidStreamHasher, data: &[u8]) -> Outcome
 }
 
 // The hash of bytes that come in two parts: a hasher is opened, lent for each part and looked at. The contract names no
-// reference to a hasher, so a caller needs no walk.
+// reference to a hasher.
 pub fn hash_of_two<'a>(
     secrets: RapidSecrets,
     avalanche: bool,
