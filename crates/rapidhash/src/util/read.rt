@@ -69,7 +69,7 @@ fn array_at<const N: usize>(bytes: &[u8], at: usize) -> [u8; N]
     requires { at + N ≤ length bytes.now }
     ensures { result ≡ take N (drop at bytes.now) }
 {
-    *bytes[at..].first_chunk().unwrap()
+    *bytes[at..at + N].as_array().unwrap()
 }
 
 // A byte as a 64-bit number.
