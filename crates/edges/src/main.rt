@@ -4,7 +4,6 @@
 #![tactic(auto)]
 
 use rapidhash::util::read::{read_u32, read_u64};
-use secrets::util::found::Found;
 use secrets::v3::seed::RapidSecrets;
 use std::io;
 
@@ -77,10 +76,10 @@ fn shown_secret(rt: &impl Print, secrets: RapidSecrets, index: usize) -> io::Res
 }
 
 // The number of the answer, and its value.
-fn answer(rt: &impl Print, request: &str, place: usize, found: Found) -> io::Result<()> {
+fn answer(rt: &impl Print, request: &str, place: usize, found: Option<u64>) -> io::Result<()> {
     print!(rt; "{request}{place:016x}")?;
     match found {
-        Found::Value(value) => println!(rt; " = 0 {value:016x}"),
-        Found::PastEnd => println!(rt; " = 3 {:016x}", 0),
+        Some(value) => println!(rt; " = 0 {value:016x}"),
+        None => println!(rt; " = 3 {:016x}", 0),
     }
 }

@@ -1,15 +1,25 @@
--- The two answers of a public read, once over the width n. Assumes nothing.
-use Rattle.std.proofs.Common.{◌≡◌, ℕ, ◌+◌, ◌≤◌, Bool, true, false, leb, List, length, sym, ◌∙◌, leb-true}
+-- The two answers of a public read: the word where its bytes are there, and past the end. Assumes nothing.
+use Rattle.std.proofs.Common.{◌≡◌, ℕ, ◌+◌, Bool, true, false, Some, None, leb, List, length, take, drop, sym, refl, ap, ◌∙◌}
+use Rattle.std.specs.Int.{from_le_bytes, w32, w64}
+use Rattle.secrets.specs.Choice.{pick}
 use Rattle.secrets.specs.Numbers.{done, past_end}
-use Rattle.rapidhash.specs.Words.{word, word_of}
+use Rattle.rapidhash.specs.Words.{word_of}
+use Rattle.rapidhash.proofs.Words.{word8_read, word4_read}
 
-module _ (n : ℕ) (s : List ℕ) (i : ℕ) {t : Bool} (e : t ≡ leb (i + n) (length s)) where
-  -- where the test holds the word is there
-  pub read_fits : t ≡ true → i + n ≤ length s
-  read_fits h = leb-true _ _ (sym e ∙ h)
+-- what is found by a test is there, and the test holds
+found_by : (t : Bool) {b c : List ℕ} → Some b ≡ pick t (Some c) None → (t ≡ true) × (b ≡ c)
+found_by true e = (refl, cc)
+found_by false e = cc
 
-  pub read_found : {v : ℕ} → t ≡ true → v ≡ word n s i → done v ≡ word_of n s i
-  read_found h v = rw (sym e ∙ h, v)
+-- the answer of a public read, where the bytes are there
+pub word8_found : (s : List ℕ) (i : ℕ) {b : List ℕ} {x : ℕ} → Some b ≡ pick (leb (i + 8) (length s)) (Some (take 8 (drop i s))) None
+    → x ≡ from_le_bytes w64 b → done x ≡ word_of 8 s i
+word8_found s i e h = let f = found_by (leb (i + 8) (length s)) e in rw f.0 (ap done (word8_read s i f.1 h))
 
-  pub read_past : t ≡ false → past_end ≡ word_of n s i
-  read_past h = rw (sym e ∙ h)
+pub word4_found : (s : List ℕ) (i : ℕ) {b : List ℕ} {x : ℕ} → Some b ≡ pick (leb (i + 4) (length s)) (Some (take 4 (drop i s))) None
+    → x ≡ from_le_bytes w32 b → done x ≡ word_of 4 s i
+word4_found s i e h = let f = found_by (leb (i + 4) (length s)) e in rw f.0 (ap done (word4_read s i f.1 h))
+
+-- and where they are not
+pub read_past : (n : ℕ) (s : List ℕ) (i : ℕ) {t : Bool} → t ≡ leb (i + n) (length s) → t ≡ false → past_end ≡ word_of n s i
+read_past n s i e h = rw (sym e ∙ h)

@@ -1,5 +1,5 @@
 -- A test of the code and a test of a definition that say the same. Assumes nothing.
-use Rattle.std.proofs.Common.{◌≡◌, ℕ, ◌+◌, ◌-◌, ◌<◌, ◌≤◌, Bool, true, false, leb, sym, ◌∙◌, lt_of_not-le, arith, le-leb}
+use Rattle.std.proofs.Common.{◌≡◌, ℕ, ◌≤◌, Bool, true, false, leb, sym, ◌∙◌, lt_of_not-le, arith, le-leb}
 use native.Mathlib.Decide.{dec_le}
 use Rattle.secrets.specs.Choice.{pick}
 use borrow.Author.Tests.{lt-leb}
@@ -11,13 +11,6 @@ same_leb a b c d to from = go (dec_le a b)
     go : Dec (a ≤ b) → leb a b ≡ leb c d
     go (yes h) = le-leb a b h ∙ sym (le-leb c d (to h))
     go (no n) = lt-leb a b (omega arith) ∙ sym (lt-leb c d (lt_of_not-le (λ k. n (from k))))
-
--- a place i has k of n by a difference, which wraps nowhere, as by a sum
-pub by_difference : (i k n : ℕ) → k ≤ n → leb i (n - k) ≡ leb (i + k) n
-by_difference i k n h = same_leb i (n - k) (i + k) n (λ h'. omega arith) (λ h'. omega arith)
-
-pub none_fits : (i k n : ℕ) → n < k → false ≡ leb (i + k) n
-none_fits i k n h = sym (lt-leb (i + k) n (omega arith))
 
 -- what both answers of a choice have, the choice has
 pub either : {A : Type 0} (P : A → Type 0) (t : Bool) {x y : A} → P x → P y → P (pick t x y)

@@ -1,5 +1,6 @@
--- Words of bytes: how a word falls into shorter ones, and where it stands in a part. Assumes nothing.
-use Rattle.std.proofs.Common.{◌≡◌, ℕ, zero, suc, ◌+◌, ◌*◌, ◌^◌, ◌<◌, ◌≤◌, List, [], ◌∷◌, get_or, take, drop, refl, ap, arith, get_or-drop, get_or-take}
+-- Words of bytes: how a word falls into shorter ones, where it stands in a part, and what the library reads. Assumes nothing.
+use Rattle.std.proofs.Common.{◌≡◌, ℕ, zero, suc, ◌+◌, ◌*◌, ◌^◌, ◌<◌, ◌≤◌, List, [], ◌∷◌, get_or, take, drop, refl, ap, ◌∙◌, add-zero, arith, get_or-drop, get_or-take}
+use Rattle.std.specs.Int.{from_le_bytes, w32, w64}
 use Rattle.rapidhash.specs.Words.{word}
 
 -- four bytes weighed by their places are a word, with its bound
@@ -37,3 +38,24 @@ word-take zero s k i h = refl
 word-take (suc n) s k i h =
     let at : get_or (take k s) (i + n) 0 ≡ get_or s (i + n) 0 = get_or-take k s (i + n) 0 (omega arith) in
     rw (word-take n s k i (omega arith), at)
+
+-- the n bytes at a place, taken out, are the word there
+pub word_part : (n : ℕ) (s : List ℕ) (i : ℕ) → word n (take n (drop i s)) 0 ≡ word n s i
+word_part n s i = word-take n (drop i s) n 0 (omega arith) ∙ word-drop n s i 0 ∙ rw add-zero
+
+-- what the library reads of 8 bytes is their word
+le_word8 : (b : List ℕ) → from_le_bytes w64 b ≡ word 8 b 0
+unfolding word
+le_word8 b = omega arith
+
+le_word4 : (b : List ℕ) → from_le_bytes w32 b ≡ word 4 b 0
+unfolding word
+le_word4 b = omega arith
+
+-- and so of those at a place
+pub word8_read : (s : List ℕ) (i : ℕ) {b : List ℕ} {x : ℕ} → b ≡ take 8 (drop i s) → x ≡ from_le_bytes w64 b → x ≡ word 8 s i
+word8_read s i e h = h ∙ rw e (le_word8 _ ∙ word_part 8 s i)
+
+-- likewise of 4
+pub word4_read : (s : List ℕ) (i : ℕ) {b : List ℕ} {x : ℕ} → b ≡ take 4 (drop i s) → x ≡ from_le_bytes w32 b → x ≡ word 4 s i
+word4_read s i e h = h ∙ rw e (le_word4 _ ∙ word_part 4 s i)

@@ -1,9 +1,20 @@
 -- Zero bytes by words: a word is zero exactly where its bytes are. Assumes nothing.
-use Rattle.std.proofs.Common.{◌≡◌, ℕ, zero, suc, ◌+◌, ◌-◌, ◌*◌, ◌^◌, ◌<◌, ◌≤◌, Bool, true, false, eqb, ◌⊎◌, List, length, get_or, take, drop, sym, ◌∙◌, inl, inr, le_refl, eq-zero-or-pos, mul-pos, add-one, arith, length-drop, take_all, drop-cons, eq-eqb, ne_eqb}
+use Rattle.std.proofs.Common.{◌≡◌, ℕ, zero, suc, ◌+◌, ◌-◌, ◌*◌, ◌^◌, ◌<◌, ◌≤◌, Bool, true, false, ◌&&◌, eqb, ◌⊎◌, List, [], ◌∷◌, refl, length, get_or, take, drop, sym, ◌∙◌, inl, inr, le_refl, eq-zero-or-pos, mul-pos, add-one, arith, length-drop, take_all, drop-cons, eq-eqb, ne_eqb}
+use Rattle.std.specs.List.{list_all}
 use native.Mathlib.Nat.{one-le-pow}
 use lib.Seq.{drop-length}
 use Rattle.secrets.specs.Choice.{pick, all_are}
 use Rattle.rapidhash.specs.Words.{word}
+
+-- the library's test of every element is the rule's
+list_all_zero : (s : List ℕ) → list_all (λ x. eqb x 0) s ≡ all_are 0 s
+unfolding all_are
+list_all_zero [] = refl
+list_all_zero (x ∷ xs) =
+    elim (eqb x 0) as (λ t. (t && list_all (λ y. eqb y 0) xs) ≡ pick t (all_are 0 xs) false) [ true ↦ list_all_zero xs | false ↦ refl ]
+
+pub all_by_test : (s : List ℕ) {b : Bool} → b ≡ list_all (λ x. eqb x 0) s → b ≡ all_are 0 s
+all_by_test s e = e ∙ list_all_zero s
 
 -- from a place on: the byte there, and the rest
 pub all_cons : (v : ℕ) (s : List ℕ) (i : ℕ) → i < length s → all_are v (drop i s) ≡ pick (eqb (get_or s i 0) v) (all_are v (drop (i + 1) s)) false
@@ -62,7 +73,7 @@ module _ (s : List ℕ) {b : Bool} (i : ℕ) (e : b ≡ all_are 0 (drop i s)) (h
   word_not z = sym (e ∙ zero_word s 8 i h ∙ rw (ne_eqb (word 8 s i) 0 (λ k. z (is ∙ k))))
 
 -- what is found of a rest is found of all
-pub all_rest : (s : List ℕ) {b r : Bool} (i : ℕ) → b ≡ all_are 0 (drop i s) → r ≡ all_are 0 (take (length s - i) (drop i s)) → r ≡ b
+pub all_rest : (s : List ℕ) {b r : Bool} (i : ℕ) → b ≡ all_are 0 (drop i s) → r ≡ list_all (λ x. eqb x 0) (take (length s - i) (drop i s)) → r ≡ b
 all_rest s i e h =
     let whole : take (length s - i) (drop i s) ≡ drop i s = take_all (length s - i) (drop i s) (rw length-drop (le_refl _)) in
-    h ∙ rw whole (sym e)
+    h ∙ rw whole (list_all_zero (drop i s) ∙ sym e)

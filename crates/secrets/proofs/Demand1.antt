@@ -1,11 +1,9 @@
 -- Demand 1, for the folded multiply and the secrets: no contract leaves a choice. Two answers that one contract allows for the same
 -- input are equal, whatever the arguments hold at each exit. (That every call takes any input and ends is what the verdict says of a function
 -- without a `requires`.) Assumes nothing.
-use Rattle.std.proofs.Common.{◌≡◌, eqb, sym, refl, ap, ◌∙◌}
+use Rattle.std.proofs.Common.{◌≡◌, ℕ, eqb, Option, Some, None, sym, refl, ap, ◌∙◌}
 use Rattle.secrets.specs.Choice.{pick}
 use Rattle.secrets.specs.Numbers.{Returned, returned}
-use Rattle.secrets.specs.declared.util.found.Found.{Found}
-use Rattle.secrets.specs.declared.util.found.Found.TheVariants.{Value, PastEnd}
 use Rattle.secrets.proofs.util.mix.rapid_mum.Reads as rapid-mum
 use Rattle.secrets.proofs.util.mix.rapid_mix.Reads as rapid-mix
 use Rattle.secrets.proofs.v3.seed.RapidSecrets.seed.Reads as seed
@@ -27,15 +25,15 @@ pub told_back : {A B : Type 0} (told : A → B) (back : B → A) → ((x : A) �
 told_back told back is x y e = sym (is x) ∙ ap back e ∙ is y
 
 -- a look-up is told back from its number and value
-found : Returned → Found
-found r = pick (eqb r.number 0) (Value r.value) PastEnd
+found : Returned → Option ℕ
+found r = pick (eqb r.number 0) (Some r.value) None
 
-found_back : (x : Found) → found (returned x) ≡ x
+found_back : (x : Option ℕ) → found (returned x) ≡ x
 unfolding found
-found_back (Value v) = refl
-found_back PastEnd = refl
+found_back (Some v) = refl
+found_back None = refl
 
-pub found_apart : (x y : Found) → returned x ≡ returned y → x ≡ y
+pub found_apart : (x y : Option ℕ) → returned x ≡ returned y → x ≡ y
 found_apart = told_back returned found found_back
 
 pub rapid_mum_one : OneAnswer rapid-mum.Post

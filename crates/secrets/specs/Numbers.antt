@@ -1,7 +1,5 @@
 -- The numbers that come back, with what is returned beside each (docs/RULES.md, section 8). Assumes nothing.
-use Rattle.std.specs.Prelude.{ℕ}
-use Rattle.secrets.specs.declared.util.found.Found.{Found}
-use Rattle.secrets.specs.declared.util.found.Found.TheVariants.{Value, PastEnd}
+use Rattle.std.specs.Prelude.{ℕ, Option, Some, None}
 
 -- a number of the table and the value returned with it
 pub record Returned : Type 0 where
@@ -16,7 +14,7 @@ done v = record { number = 0; value = v }
 abbrev pub past_end : Returned
 past_end = record { number = 3; value = 0 }
 
--- the number and the value of each case of a look-up
-abbrev pub returned : Found → Returned
-returned (Value v) = done v
-returned PastEnd = past_end
+-- the number and the value of a look-up: of what it found, or of nothing found
+abbrev pub returned : Option ℕ → Returned
+returned (Some v) = done v
+returned None = past_end

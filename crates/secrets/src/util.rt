@@ -1,2 +1,1 @@
-pub mod found;
 pub mod mix;

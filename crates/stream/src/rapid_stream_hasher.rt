@@ -9,7 +9,6 @@ ghost use Rattle.stream.specs.State.{answered, ended};
 use rapidhash::util::read::{all_zero, read_u64};
 use rapidhash::v3::lanes::{Size, join, mix_chunks, mix_first};
 use rapidhash::v3::rapid_const::{Ends, last_step, rapidhash_v3_inline, tail_steps};
-use secrets::util::found::Found;
 use secrets::v3::seed::RapidSecrets;
 
 // The size of a chunk.
@@ -369,9 +368,5 @@ fn word_at(bytes: &[u8], at: usize) -> u64
     requires { at + 8 ≤ length bytes.now }
     ensures { result ≡ word 8 bytes.now at }
 {
-    let found = read_u64(bytes, at);
-    match found {
-        Found::Value(w) => w,
-        Found::PastEnd => 0,
-    }
+    read_u64(bytes, at).unwrap()
 }

@@ -10,7 +10,6 @@ use rapidhash::util::read::{read_u32, read_u64};
 use rapidhash::v3::rapid_const::{
     rapidhash_v3_inline, rapidhash_v3_micro_inline, rapidhash_v3_nano_inline,
 };
-use secrets::util::found::Found;
 use secrets::v3::seed::RapidSecrets;
 
 // A number of the table, and a value.
@@ -21,18 +20,33 @@ pub struct Value {
     pub value: u64,
 }
 
+// The number and the value of a look-up.
+impl From<Option<u64>> for Value {
+    ghost from_gives = { λ found r. r ≡ value_for (returned found) };
+
+    fn from(found: Option<u64>) -> Self {
+        match found {
+            Some(value) => Value { number: 0, value },
+            None => Value {
+                number: 3,
+                value: 0,
+            },
+        }
+    }
+}
+
 // The 8 bytes at an offset, least significant first.
 pub fn tulgranie_word8(bytes: &[u8], offset: usize) -> Value
     ensures { result ≡ value_for (word_of 8 bytes.now offset) }
 {
-    value_of(read_u64(bytes, offset))
+    read_u64(bytes, offset).into()
 }
 
 // The 4 bytes at an offset, least significant first.
 pub fn tulgranie_word4(bytes: &[u8], offset: usize) -> Value
     ensures { result ≡ value_for (word_of 4 bytes.now offset) }
 {
-    value_of(read_u32(bytes, offset))
+    read_u32(bytes, offset).into()
 }
 
 // Seed and secrets from one number.
@@ -67,7 +81,7 @@ pub fn tulgranie_default_secrets() -> RapidSecrets
 pub fn tulgranie_secret(secrets: RapidSecrets, index: usize) -> Value
     ensures { result ≡ value_for (secret_of secrets index) }
 {
-    value_of(secrets.secret(index))
+    secrets.secret(index).into()
 }
 
 // The full hash.
@@ -95,17 +109,4 @@ pub fn tulgranie_nano(data: &[u8], secrets: RapidSecrets, avalanche: bool, prote
     ensures { result ≡ hash_of 3 avalanche protected secrets «data».now }
 {
     rapidhash_v3_nano_inline(data, secrets, avalanche, protected)
-}
-
-// The number and the value of a look-up.
-fn value_of(found: Found) -> Value
-    ensures { result ≡ value_for (returned found) }
-{
-    match found {
-        Found::Value(value) => Value { number: 0, value },
-        Found::PastEnd => Value {
-            number: 3,
-            value: 0,
-        },
-    }
 }

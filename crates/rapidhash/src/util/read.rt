@@ -1,33 +1,30 @@
-// Words out of bytes, as the Rust's util/read: least significant byte first on any host, by index. The two public
-// reads take any offset and answer whether the word is there; the hashes read by word8 and word4, whose range the
-// caller knows.
-ghost use Rattle.std.specs.Prelude.{◌≡◌, [], ◌∷◌, ◌+◌, ◌^◌, ◌<◌, ◌≤◌, leb, length};
-ghost use Rattle.secrets.specs.Choice.{all_are};
+// Words out of bytes, as the Rust's util/read: least significant byte first on any host. The two public reads take any
+// offset and answer whether the word is there; the hashes read by word8 and word4, whose range the caller knows.
+ghost use Rattle.std.specs.Prelude.{◌≡◌, ◌==◌, ◌+◌, ◌^◌, ◌<◌, ◌≤◌, Some, None, leb, length, take, drop};
+ghost use Rattle.std.specs.List.{list_all};
+ghost use Rattle.secrets.specs.Choice.{pick, all_are};
 ghost use Rattle.secrets.specs.Numbers.{returned};
 ghost use Rattle.rapidhash.specs.Words.{word, word_of};
 
-use secrets::util::found::Found;
-
 // The 8 bytes at an offset.
-pub fn read_u64(bytes: &[u8], offset: usize) -> Found
+pub fn read_u64(bytes: &[u8], offset: usize) -> Option<u64>
     ensures { returned result ≡ word_of 8 bytes.now offset }
 {
-    if within(bytes, offset, 8) {
-        Found::Value(word8(bytes, offset))
-    } else {
-        Found::PastEnd
-    }
+    Some(u64::from_le_bytes(bytes_at(bytes, offset)?))
 }
 
 // The 4 bytes at an offset.
-pub fn read_u32(bytes: &[u8], offset: usize) -> Found
+pub fn read_u32(bytes: &[u8], offset: usize) -> Option<u64>
     ensures { returned result ≡ word_of 4 bytes.now offset }
 {
-    if within(bytes, offset, 4) {
-        Found::Value(word4(bytes, offset))
-    } else {
-        Found::PastEnd
-    }
+    Some(u64::from(u32::from_le_bytes(bytes_at(bytes, offset)?)))
+}
+
+// The bytes at an offset, if all of them are there.
+fn bytes_at<const N: usize>(bytes: &[u8], offset: usize) -> Option<[u8; N]>
+    ensures { result ≡ pick (leb (offset + N) (length bytes.now)) (Some (take N (drop offset bytes.now))) None }
+{
+    bytes.get(offset..)?.first_chunk().copied()
 }
 
 // Whether every byte is zero. By words, with an exit at the first that is not, so that a test of 128 bytes costs little.
@@ -46,25 +43,9 @@ pub fn all_zero(bytes: &[u8]) -> bool
 
 // The same by bytes, for the few that make no word.
 fn zero_bytes(bytes: &[u8]) -> bool
-    ensures { result ≡ all_are 0 bytes.now }
+    ensures { result ≡ list_all (λ b. b == 0) bytes.now }
 {
-    for i in 0..bytes.len() {
-        if bytes[i] != 0 {
-            return false;
-        }
-    }
-    true
-}
-
-// Whether count bytes stand at an offset. No sum is made, so an offset near 2^64 cannot wrap.
-fn within(bytes: &[u8], offset: usize, count: usize) -> bool
-    ensures { result ≡ leb (offset + count) (length bytes.now) }
-{
-    if count <= bytes.len() {
-        offset <= bytes.len() - count
-    } else {
-        false
-    }
+    bytes.iter().all(|b| *b == 0)
 }
 
 // The 8 bytes at a place that is known to be there. Straight-line, so that the compiler makes one load of it.
@@ -72,7 +53,7 @@ pub(crate) fn word8(bytes: &[u8], at: usize) -> u64
     requires { at + 8 ≤ length bytes.now }
     ensures { result ≡ word 8 bytes.now at }
 {
-    word4(bytes, at) + word4(bytes, at + 4) * 0x1_0000_0000
+    u64::from_le_bytes(array_at(bytes, at))
 }
 
 // The 4 bytes at a place that is known to be there.
@@ -80,19 +61,20 @@ pub(crate) fn word4(bytes: &[u8], at: usize) -> u64
     requires { at + 4 ≤ length bytes.now }
     ensures { (result ≡ word 4 bytes.now at) × (result < 2 ^ 32) }
 {
-    weighed(bytes[at], bytes[at + 1], bytes[at + 2], bytes[at + 3])
+    u64::from(u32::from_le_bytes(array_at(bytes, at)))
 }
 
-// Four bytes as a word, the least significant first.
-fn weighed(b0: u8, b1: u8, b2: u8, b3: u8) -> u64
-    ensures { (result ≡ word 4 (b0 ∷ b1 ∷ b2 ∷ b3 ∷ []) 0) × (result < 2 ^ 32) }
+// The bytes at a place that are known to be there.
+fn array_at<const N: usize>(bytes: &[u8], at: usize) -> [u8; N]
+    requires { at + N ≤ length bytes.now }
+    ensures { result ≡ take N (drop at bytes.now) }
 {
-    wide(b0) + wide(b1) * 0x100 + wide(b2) * 0x1_0000 + wide(b3) * 0x100_0000
+    *bytes[at..at + N].as_array().unwrap()
 }
 
 // A byte as a 64-bit number.
 pub(crate) fn wide(byte: u8) -> u64
     ensures { (result ≡ byte) × (result < 256) }
 {
-    byte as u64
+    u64::from(byte)
 }

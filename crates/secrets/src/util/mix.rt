@@ -5,7 +5,7 @@ ghost use Rattle.std.specs.Prelude.{◌≡◌, ◌*◌, ◌^◌, ◌<◌, ◌≤
 ghost use Rattle.secrets.specs.Mix.{low, high, mum, mix};
 
 // The two words of a product.
-#[derive(Clone, Copy)]
+#[derive(Clone, Copy, Debug, PartialEq, Eq)]
 pub struct Mum {
     pub low: u64,
     pub high: u64,
@@ -42,8 +42,8 @@ fn low_word(a: u64, b: u64) -> u64
     let ll = times(a % 0x1_0000_0000, b % 0x1_0000_0000);
     let lh = times(a % 0x1_0000_0000, b >> 32);
     let hl = times(a >> 32, b % 0x1_0000_0000);
-    let cross = std::num::wrapping_add_u64(hl << 32, lh << 32);
-    std::num::wrapping_add_u64(ll, cross)
+    let cross = (hl << 32).wrapping_add(lh << 32);
+    ll.wrapping_add(cross)
 }
 
 // The high word. The cross products' sum may pass 2^64; comparing it with one of them yields its carry, which
@@ -55,7 +55,7 @@ fn high_word(a: u64, b: u64) -> u64
     let lh = times(a % 0x1_0000_0000, b >> 32);
     let hl = times(a >> 32, b % 0x1_0000_0000);
     let hh = times(a >> 32, b >> 32);
-    let cross = std::num::wrapping_add_u64(hl, lh);
+    let cross = hl.wrapping_add(lh);
     let carry = if cross < hl { 0x1_0000_0000 } else { 0 };
     hh + carry + (cross >> 32) + (((ll >> 32) + cross % 0x1_0000_0000) >> 32)
 }

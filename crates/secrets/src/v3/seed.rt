@@ -3,7 +3,6 @@ ghost use Rattle.std.specs.Prelude.{◌≡◌, ◌<◌};
 ghost use Rattle.secrets.specs.Numbers.{returned};
 ghost use Rattle.secrets.specs.Secrets.{mend, repair, stirred, premix, seed_of, reseed_of, seed_cpp, secret_of};
 
-use crate::util::found::Found;
 use crate::util::mix::rapid_mix;
 
 // The secrets of the C++ original. `seed` and `seed_cpp` both start from them.
@@ -20,20 +19,12 @@ const DEFAULT_SECRETS: [u64; 7] = [
 // What `seed_cpp` of 0 gives, written out since a constant's value makes no call.
 pub const DEFAULT_RAPID_SECRETS: RapidSecrets = RapidSecrets {
     seed: 0x422765567d8fbfd6,
-    secrets: [
-        0x2d358dccaa6c78a5,
-        0x8bb84b93962eacc9,
-        0x4b33a62ed433d4a3,
-        0x4d5a2da51de1aa47,
-        0xa0761d6478bd642f,
-        0xe7037ed1a0b428db,
-        0x90ed1765281c388c,
-    ],
+    secrets: DEFAULT_SECRETS,
 };
 
 // The seed and the secrets of a hash.
 #[repr(C)]
-#[derive(Clone, Copy)]
+#[derive(Clone, Copy, Debug, PartialEq, Eq)]
 pub struct RapidSecrets {
     pub seed: u64,
     pub secrets: [u64; 7],
@@ -87,15 +78,10 @@ impl RapidSecrets {
     }
 
     // The secret at an index.
-    pub fn secret(self, index: usize) -> Found
+    pub fn secret(self, index: usize) -> Option<u64>
         ensures { returned result ≡ secret_of self index }
     {
-        let secrets = self.secrets;
-        if index <= 6 {
-            Found::Value(secrets[index])
-        } else {
-            Found::PastEnd
-        }
+        self.secrets.get(index).copied()
     }
 }
 
