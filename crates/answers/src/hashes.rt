@@ -45,11 +45,11 @@ pub(crate) fn shows_stream(rt: &impl Print, line: &[u8]) -> io::Result<()> {
     let opened = RapidStreamHasher::new(secrets, flag(flags, 0), flag(flags, 2));
     let finished = in_three(opened, &bytes[0..n], first, second).finish();
     match finished {
-        Finished::Hash(hash, count) => {
+        Ok(Finished { hash, count }) => {
             print!(rt; "{hash:016x}")?;
             shows_number(rt, count)
         }
-        Finished::NotSound => print!(rt; "not sound"),
+        Err(_) => print!(rt; "not sound"),
     }
 }
 

@@ -105,8 +105,8 @@ fn cut_at(record: &[u8], secrets: RapidSecrets, at: usize) -> u64 {
     }
     let finished = stream.finish();
     match finished {
-        Finished::Hash(hash, _) => hash,
-        Finished::NotSound => 0,
+        Ok(Finished { hash, .. }) => hash,
+        Err(_) => 0,
     }
 }
 

@@ -9,7 +9,7 @@ use rapidhash::v3::rapid_const::rapidhash_v3_inline;
 use samples::message;
 use secrets::v3::seed::RapidSecrets;
 use std::io;
-use stream::rapid_stream_hasher::{Finished, Outcome, RapidStreamHasher};
+use stream::rapid_stream_hasher::{Finished, RapidStreamHasher};
 
 // What a stream ends in.
 #[derive(Clone, Copy)]
@@ -76,8 +76,8 @@ fn took(state: RapidStreamHasher, bytes: &[u8]) -> RapidStreamHasher {
     let outcome = w.outcome;
     let mut next = w.state;
     match outcome {
-        Outcome::Took => next,
-        _ => {
+        Ok(()) => next,
+        Err(_) => {
             next.count = u64::MAX;
             next
         }
@@ -87,8 +87,8 @@ fn took(state: RapidStreamHasher, bytes: &[u8]) -> RapidStreamHasher {
 fn end_of(state: RapidStreamHasher) -> End {
     let finished = state.finish();
     match finished {
-        Finished::Hash(hash, count) => End { hash, count },
-        Finished::NotSound => End { hash: 0, count: 0 },
+        Ok(Finished { hash, count }) => End { hash, count },
+        Err(_) => End { hash: 0, count: 0 },
     }
 }
 
@@ -99,14 +99,14 @@ fn ends_in(state: RapidStreamHasher, wanted: End) -> u64
 {
     let finished = state.finish();
     match finished {
-        Finished::Hash(hash, count) => {
+        Ok(Finished { hash, count }) => {
             if hash == wanted.hash && count == wanted.count {
                 1
             } else {
                 0
             }
         }
-        Finished::NotSound => 0,
+        Err(_) => 0,
     }
 }
 
@@ -195,8 +195,8 @@ fn is_hash_of(state: RapidStreamHasher, bytes: &[u8]) -> bool {
     );
     let finished = state.finish();
     match finished {
-        Finished::Hash(found, _) => found == hash,
-        Finished::NotSound => false,
+        Ok(found) => found.hash == hash,
+        Err(_) => false,
     }
 }
 

@@ -1,5 +1,5 @@
 -- The fingerprint's values one after another through the stream: demand 3 makes them one message. Assumes nothing.
-use Rattle.std.proofs.Common.{◌≡◌, ℕ, ◌+◌, ◌≤◌, true, false, List, [], ◌++◌, length, sym, ap, ◌∙◌, arith, length-append, length-drop, length-take}
+use Rattle.std.proofs.Common.{◌≡◌, ℕ, ◌+◌, ◌≤◌, true, false, List, [], ◌++◌, length, Result, Ok, Err, sym, ap, ◌∙◌, arith, length-append, length-drop, length-take}
 use Rattle.std.proofs.Math.Decide.{dec_le}
 use Rattle.rapidhash.specs.Hash.{chunks, hash_of}
 use Rattle.label.specs.Numbers.{Told, told_reading}
@@ -15,7 +15,7 @@ use Rattle.stream.specs.declared.rapid_stream_hasher.Settings.{Settings}
 use Rattle.stream.specs.declared.rapid_stream_hasher.RapidStreamHasher.{RapidStreamHasher}
 use Rattle.stream.specs.declared.rapid_stream_hasher.Written.{Written}
 use Rattle.stream.specs.declared.rapid_stream_hasher.Finished.{Finished}
-use Rattle.stream.specs.declared.rapid_stream_hasher.Finished.TheVariants.{Hash, NotSound}
+use Rattle.stream.specs.declared.rapid_stream_hasher.NotSound.{NotSound}
 use Rattle.stream.proofs.Seven.{some_lanes, few_lanes}
 use Rattle.stream.proofs.After.{after, after_none, sound_after, sofar_after}
 use Rattle.stream.proofs.Demand3.{taken_when, taken_after, finish_is_whole}
@@ -31,7 +31,10 @@ module _ (o : Settings) where
   -- four writes from the opening, and finish
   pub four_parts : (a b c d : List ℕ) → length a + length b + length c + length d ≤ most
       → finish_of 7 (write_of 7 (write_of 7 (write_of 7 (write_of 7 (opening_of o) a).state b).state c).state d).state
-      ≡ ended (Hash (hash_of 7 o.avalanche o.protected o.secrets (a ++ b ++ c ++ d)) (chunks 112 (length (a ++ b ++ c ++ d))))
+      ≡ ended (Ok (record {
+        hash = hash_of 7 o.avalanche o.protected o.secrets (a ++ b ++ c ++ d);
+        count = chunks 112 (length (a ++ b ++ c ++ d));
+      }))
   four_parts a b c d h =
       let opened : opening_of o ≡ after 7 o [] = sym (after_none 7 o) in
       let one = written [] a (omega arith) in
@@ -66,9 +69,9 @@ module _ (s : List ℕ) (x : RapidSecrets) (short : length s ≤ 8192) where
 
   module _ {h₀ h₁ h₂ h₃ h₄ : RapidStreamHasher} (opening : h₀ ≡ opening_of (record { secrets = x; avalanche = true; protected = false }))
       (one : h₁ ≡ (write_of 7 h₀ (value 1)).state) (two : h₂ ≡ (write_of 7 h₁ (value 2)).state) (three : h₃ ≡ (write_of 7 h₂ (value 3)).state)
-      (four : h₄ ≡ (write_of 7 h₃ (value 4)).state) (f : Finished) (finish : ended f ≡ finish_of 7 h₄) where
+      (four : h₄ ≡ (write_of 7 h₃ (value 4)).state) (f : Result Finished NotSound) (finish : ended f ≡ finish_of 7 h₄) where
     -- the stream of the four values has their hash
-    hashed : ended f ≡ ended (Hash (hash_of 7 true false x (hashed_of s)) (chunks 112 (length (hashed_of s))))
+    hashed : ended f ≡ ended (Ok (record { hash = hash_of 7 true false x (hashed_of s); count = chunks 112 (length (hashed_of s)) }))
     unfolding hashed_of
     hashed =
         finish
@@ -76,10 +79,10 @@ module _ (s : List ℕ) (x : RapidSecrets) (short : length s ≤ 8192) where
         (four_parts (record { secrets = x; avalanche = true; protected = false }) (value 1) (value 2) (value 3) (value 4)
         (simp length-append at (hashed_short s short)))
 
-    pub hash_finished : {v k : ℕ} → f ≡ Hash v k → v ≡ hash_of 7 true false x (hashed_of s)
+    pub hash_finished : {g : Finished} → f ≡ Ok g → g.hash ≡ hash_of 7 true false x (hashed_of s)
     hash_finished e = ap (λ (d : Ended). d.hash) (ap ended (sym e) ∙ hashed)
 
-    pub never_unsound : f ≡ NotSound → 0 ≡ hash_of 7 true false x (hashed_of s)
+    pub never_unsound : {n : NotSound} → f ≡ Err n → 0 ≡ hash_of 7 true false x (hashed_of s)
     never_unsound e =
         let n : ◌≡◌ {A = ℕ} 1 0 = ap (λ (d : Ended). d.number) (ap ended (sym e) ∙ hashed) in
         absurd (omega arith)

@@ -42,8 +42,8 @@ fn hash_of_values(record: &[u8], secrets: RapidSecrets) -> u64
     let four = with_value(three, record, 4);
     let finished = four.finish();
     match finished {
-        Finished::Hash(hash, _) => hash,
-        Finished::NotSound => 0,
+        Ok(Finished { hash, .. }) => hash,
+        Err(_) => 0,
     }
 }
 

@@ -3,7 +3,7 @@ ghost use Rattle.std.specs.Prelude.{◌≡◌, ◌<◌, length};
 
 use crate::states::message_byte;
 use std::io;
-use stream::rapid_stream_hasher::{Finished, Outcome, RapidStreamHasher, Written};
+use stream::rapid_stream_hasher::{Finished, NotSound, RapidStreamHasher, WriteError, Written};
 
 // A state, and what a write of each size says of it.
 pub(crate) fn tried(
@@ -90,11 +90,15 @@ fn shows_state(rt: &impl Print, what: &str, h: RapidStreamHasher) -> io::Result<
     println!(rt)
 }
 
-fn shows_write(rt: &impl Print, outcome: Outcome, next: RapidStreamHasher) -> io::Result<()> {
+fn shows_write(
+    rt: &impl Print,
+    outcome: Result<(), WriteError>,
+    next: RapidStreamHasher,
+) -> io::Result<()> {
     match outcome {
-        Outcome::Took => said(rt, 0, 0)?,
-        Outcome::NotSound => said(rt, 1, 0)?,
-        Outcome::TooLong(room) => said(rt, 2, room)?,
+        Ok(()) => said(rt, 0, 0)?,
+        Err(WriteError::NotSound) => said(rt, 1, 0)?,
+        Err(WriteError::TooLong(room)) => said(rt, 2, room)?,
     }
     place(rt, next)?;
     println!(rt)
@@ -104,10 +108,10 @@ fn said(rt: &impl Print, n: u64, room: u64) -> io::Result<()> {
     print!(rt; " write {n} {room}")
 }
 
-fn shows_finish(rt: &impl Print, found: Finished) -> io::Result<()> {
+fn shows_finish(rt: &impl Print, found: Result<Finished, NotSound>) -> io::Result<()> {
     match found {
-        Finished::Hash(hash, count) => hashed(rt, 0, hash, count),
-        Finished::NotSound => hashed(rt, 1, 0, 0),
+        Ok(Finished { hash, count }) => hashed(rt, 0, hash, count),
+        Err(NotSound) => hashed(rt, 1, 0, 0),
     }
 }
 

@@ -1,15 +1,20 @@
 -- What one part comes to, by what the read and the write say; and part after part. Assumes nothing.
-use Rattle.std.proofs.Common.{◌≡◌, ◌-◌, Bool, true, false, eqb, take, refl, arith}
+use Rattle.std.proofs.Common.{◌≡◌, ◌-◌, Bool, true, false, eqb, take, Ok, Err, refl, arith}
 use mathlib.Core.Bool.{false≢true}
 use Rattle.stream.specs.State.{said, answered, write_of}
 use Rattle.stream.specs.declared.rapid_stream_hasher.RapidStreamHasher.{RapidStreamHasher}
-use Rattle.stream.specs.declared.rapid_stream_hasher.Outcome.{Outcome}
-use Rattle.stream.specs.declared.rapid_stream_hasher.Outcome.TheVariants.{Took}
+use Rattle.stream.specs.declared.rapid_stream_hasher.WriteError.{WriteError}
+use Rattle.stream.specs.declared.rapid_stream_hasher.WriteError.TheVariants.{NotSound, TooLong}
 use Rattle.stream.specs.declared.rapid_stream_hasher.Written.{Written}
 use Rattle.secrets.specs.Choice.{pick}
 use Rattle.rapid_file.specs.Parts.{part_bytes, begun, failed_with, progress_of, Came, part}
 use Rattle.rapid_file.specs.declared.Part.{Part}
 use Rattle.rapid_file.specs.declared.Progress.{Progress}
+
+-- no refusal has the number 0
+not_zero : (e : WriteError) → eqb (said (Err e)).number 0 ≡ false
+not_zero NotSound = refl
+not_zero (TooLong r) = refl
 
 module _ (h : RapidStreamHasher) (p : Part) where
   -- a failed read
@@ -23,14 +28,14 @@ module _ (h : RapidStreamHasher) (p : Part) where
     whole = let z : p.count - 0 ≡ p.count = omega arith in rw z at writes
 
     -- a part that the stream takes
-    pub part_took : w.outcome ≡ Took → record { stream = w.state; more = p.more; failed = false } ≡ progress_of h p
+    pub part_took : w.outcome ≡ Ok tt → record { stream = w.state; more = p.more; failed = false } ≡ progress_of h p
     unfolding progress_of
     part_took e = rw (reads, ← whole, e)
 
     -- a part that it does not take
-    pub part_refused : {o : Outcome} → w.outcome ≡ o → eqb (said o).number 0 ≡ false → failed_with w.state ≡ progress_of h p
+    pub part_refused : {e : WriteError} → w.outcome ≡ Err e → failed_with w.state ≡ progress_of h p
     unfolding progress_of
-    part_refused e n = rw (reads, ← whole, e, n)
+    part_refused {e} k = rw (reads, ← whole, k, not_zero e)
 
 -- while more may follow, nothing has failed
 pub no_failure : (h : RapidStreamHasher) (p : Part) → (progress_of h p).more ≡ true → progress_of h p ≡ begun (progress_of h p).stream

@@ -1,13 +1,12 @@
 -- What a reader of the file program looks for: where nothing failed, the stream has taken the bytes of all parts that were read, in
 -- order, and its hash is the hash of the input as one message. Assumes nothing.
-use Rattle.std.proofs.Common.{◌≡◌, ℕ, ◌+◌, ◌≤◌, Bool, true, false, List, ◌++◌, length, sym, refl, ap, ◌∙◌, true≢false, arith, length-append}
+use Rattle.std.proofs.Common.{◌≡◌, ℕ, ◌+◌, ◌≤◌, Bool, true, false, List, ◌++◌, length, Ok, sym, refl, ap, ◌∙◌, true≢false, arith, length-append}
 use native.Mathlib.Decide.{dec_le}
 use Rattle.secrets.specs.Secrets.{seed_cpp}
 use Rattle.rapidhash.specs.Hash.{chunks, hash_of}
 use Rattle.stream.specs.State.{most, sound, opening_of, ended, finish_of}
 use Rattle.stream.specs.declared.rapid_stream_hasher.Settings.{Settings}
 use Rattle.stream.specs.declared.rapid_stream_hasher.RapidStreamHasher.{RapidStreamHasher}
-use Rattle.stream.specs.declared.rapid_stream_hasher.Finished.TheVariants.{Hash}
 use Rattle.stream.proofs.After.{after, after_none, sofar_after, sound_after}
 use Rattle.stream.proofs.Demand3.{refused_too_long, taken_when, taken_after, finish_is_whole}
 use Rattle.rapid_file.specs.Parts.{part_bytes, progress_of, Came, none, part, bytes_in}
@@ -52,7 +51,8 @@ module _ (o : Settings) where
 
 -- and the hash of the input is what finish answers
 pub input_hash : {g : Progress} (c : Came (opening_of (record { secrets = seed_cpp 0; avalanche = true; protected = false })) g) → g.failed ≡ false
-    → finish_of 7 g.stream ≡ ended (Hash (hash_of 7 true false (seed_cpp 0) (bytes_in c)) (chunks 112 (length (bytes_in c))))
+    → finish_of 7 g.stream
+    ≡ ended (Ok (record { hash = hash_of 7 true false (seed_cpp 0) (bytes_in c); count = chunks 112 (length (bytes_in c)) }))
 input_hash c e =
     let o : Settings = record { secrets = seed_cpp 0; avalanche = true; protected = false } in
     let k = whole_input o c e in

@@ -9,7 +9,7 @@ ghost use Rattle.rapid_file.specs.Parts.{failed_with, progress_of, Came};
 use secrets::v3::seed::RapidSecrets;
 use std::io;
 use std::io::Read;
-use stream::rapid_stream_hasher::{Finished, Outcome, RapidStreamHasher};
+use stream::rapid_stream_hasher::RapidStreamHasher;
 
 // A part of the input: its bytes, how many there are, whether more may follow, and whether a read failed.
 #[derive(Drop)]
@@ -69,13 +69,12 @@ fn with_part(stream: RapidStreamHasher, part: Part) -> Progress
     let outcome = written.outcome;
     let next = written.state;
     match outcome {
-        Outcome::Took => Progress {
+        Ok(()) => Progress {
             stream: next,
             more,
             failed: false,
         },
-        Outcome::NotSound => failed(next),
-        Outcome::TooLong(_) => failed(next),
+        Err(_) => failed(next),
     }
 }
 
@@ -94,8 +93,8 @@ fn says(rt: &impl Print, progress: Progress) -> io::Result<()> {
     let stream = progress.stream;
     let finished = stream.finish();
     if !progress.failed {
-        if let Finished::Hash(hash, _) = finished {
-            return println!(rt; "{hash:016x}");
+        if let Ok(found) = finished {
+            return println!(rt; "{:016x}", found.hash);
         }
     }
     println!(rt; "read failed")

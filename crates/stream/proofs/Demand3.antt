@@ -1,7 +1,7 @@
 -- What a reader of the stream looks for (demand 3): cuts do not matter, finish is the whole-message hash, sound states stay sound,
 -- a refusal changes nothing, any sequence of calls answers as on a plain list of the accepted bytes and leads to a sound state, and how many
 -- chunks there are at most. Of the definitions; `OfTheCode` carries it to the code. Assumes nothing.
-use Rattle.std.proofs.Common.{◌≡◌, ℕ, ◌+◌, ◌-◌, ◌*◌, ◌<◌, ◌≤◌, true, false, List, [], ◌∷◌, ◌++◌, length, sym, refl, ap, ◌∙◌, arith, length-append, le-leb}
+use Rattle.std.proofs.Common.{◌≡◌, ℕ, ◌+◌, ◌-◌, ◌*◌, ◌<◌, ◌≤◌, true, false, List, [], ◌∷◌, ◌++◌, length, Ok, Err, sym, refl, ap, ◌∙◌, arith, length-append, le-leb}
 use native.Mathlib.Decide.{dec_le}
 use borrow.Author.Tests.{lt-leb}
 use Rattle.rapidhash.specs.Hash.{chunks, hash_of}
@@ -10,8 +10,7 @@ use Rattle.stream.specs.State.{most, sofar, view, hold, sound, opening_of, said,
 use Rattle.stream.specs.Calls.{Call, write, finish, reset, wrote, Ran, first, on_states, on_list}
 use Rattle.stream.specs.declared.rapid_stream_hasher.Settings.{Settings}
 use Rattle.stream.specs.declared.rapid_stream_hasher.RapidStreamHasher.{RapidStreamHasher}
-use Rattle.stream.specs.declared.rapid_stream_hasher.Outcome.TheVariants.{Took, NotSound, TooLong}
-use Rattle.stream.specs.declared.rapid_stream_hasher.Finished.TheVariants.{Hash}
+use Rattle.stream.specs.declared.rapid_stream_hasher.WriteError.TheVariants.{NotSound, TooLong}
 use Rattle.stream.proofs.Seven.{lanes, some_lanes}
 use Rattle.stream.proofs.Sound.{most_chunks_lem}
 use Rattle.stream.proofs.Whole.{stream_count, stream_is_message}
@@ -42,7 +41,8 @@ module _ (L : ℕ) (pos : 0 < L) (few : L ≤ 7) where
 
   -- (b) Finish after any bytes that are not too many answers the hash of them as one message, and the number of chunks that this mixes.
   pub finish_is_whole : (o : Settings) (bytes : List ℕ) → length bytes ≤ most
-      → finish_of L (after L o bytes) ≡ ended (Hash (hash_of L o.avalanche o.protected o.secrets bytes) (chunks (16 * L) (length bytes)))
+      → finish_of L (after L o bytes)
+      ≡ ended (Ok (record { hash = hash_of L o.avalanche o.protected o.secrets bytes; count = chunks (16 * L) (length bytes) }))
   unfolding finish_of after hold
   finish_is_whole o bytes l =
       rw (
@@ -54,17 +54,18 @@ module _ (L : ℕ) (pos : 0 < L) (few : L ≤ 7) where
 
   module _ (h : RapidStreamHasher) (s : List ℕ) where
     -- (d) A write to a state that is not sound says so and gives the state back.
-    pub refused_not_sound : sound L h ≡ false → write_of L h s ≡ record { state = h; says = said NotSound }
+    pub refused_not_sound : sound L h ≡ false → write_of L h s ≡ record { state = h; says = said (Err NotSound) }
     unfolding write_of
     refused_not_sound e = rw e
 
     -- A write that would make the stream too long says how many bytes there is room for, and gives the state back.
-    pub refused_too_long : sound L h ≡ true → most < sofar L h + length s → write_of L h s ≡ record { state = h; says = said (TooLong (most - sofar L h)) }
+    pub refused_too_long : sound L h ≡ true → most < sofar L h + length s
+        → write_of L h s ≡ record { state = h; says = said (Err (TooLong (most - sofar L h))) }
     unfolding write_of
     refused_too_long e l = rw (e, lt-leb (sofar L h + length s) most l)
 
     -- Any other write takes all of the bytes.
-    pub taken_when : sound L h ≡ true → sofar L h + length s ≤ most → write_of L h s ≡ record { state = taken L h s; says = said Took }
+    pub taken_when : sound L h ≡ true → sofar L h + length s ≤ most → write_of L h s ≡ record { state = taken L h s; says = said (Ok tt) }
     unfolding write_of
     taken_when e l = rw (e, le-leb (sofar L h + length s) most l)
 

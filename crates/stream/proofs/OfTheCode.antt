@@ -1,12 +1,13 @@
 -- Demand 3 of the code itself: in every run of `write`, `finish` and `reset` from what `new` answers, where each answer is any that the call's
 -- contract allows, the stream answers as a plain list of the accepted bytes. Assumes nothing.
-use Rattle.std.proofs.Common.{ℕ, Bool, List, Bor}
+use Rattle.std.proofs.Common.{ℕ, Bool, List, Bor, Result}
 use contract.Lifetimes.{Lfts}
 use Rattle.secrets.specs.declared.v3.seed.RapidSecrets.{RapidSecrets}
 use Rattle.stream.specs.State.{AfterWrite, answered, Ended, ended}
 use Rattle.stream.specs.Calls.{Call, Ran}
 use Rattle.stream.specs.declared.rapid_stream_hasher.RapidStreamHasher.{RapidStreamHasher}
 use Rattle.stream.specs.declared.rapid_stream_hasher.Written.{Written}
+use Rattle.stream.specs.declared.rapid_stream_hasher.NotSound.{NotSound}
 use Rattle.stream.specs.declared.rapid_stream_hasher.Finished.{Finished}
 use Rattle.stream.proofs.rapid_stream_hasher.RapidStreamHasher.new.Reads as new
 use Rattle.stream.proofs.rapid_stream_hasher.RapidStreamHasher.write.Reads as write
@@ -22,7 +23,7 @@ pub data Writes : RapidStreamHasher → List ℕ → AfterWrite → Type 0 where
 
 -- by `finish`
 pub data Finishes : RapidStreamHasher → Ended → Type 0 where
-  allowed : {h : RapidStreamHasher} (κ : Lfts 0) (r : Finished) (e : _) → finish.Post κ (h, tt) r e → Finishes h (ended r)
+  allowed : {h : RapidStreamHasher} (κ : Lfts 0) (r : Result Finished NotSound) (e : _) → finish.Post κ (h, tt) r e → Finishes h (ended r)
 
 -- and by `reset`
 pub data Resets : RapidStreamHasher → RapidStreamHasher → Type 0 where

@@ -1,13 +1,12 @@
 -- Sequences of calls on a stream of L lanes (docs/RULES.md, section 5.3), run on states and run on a plain list of the accepted bytes. Assumes
 -- nothing.
-use Rattle.std.specs.Prelude.{ℕ, ◌+◌, ◌-◌, ◌*◌, Bool, List, [], ◌∷◌, ◌++◌, leb, length}
+use Rattle.std.specs.Prelude.{ℕ, ◌+◌, ◌-◌, ◌*◌, Bool, List, [], ◌∷◌, ◌++◌, leb, length, Ok, Err}
 use Rattle.secrets.specs.Choice.{pick}
 use Rattle.rapidhash.specs.Hash.{chunks, hash_of}
 use Rattle.stream.specs.State.{most, Said, said, Ended, ended, write_of, finish_of, reset_of}
 use Rattle.stream.specs.declared.rapid_stream_hasher.Settings.{Settings}
 use Rattle.stream.specs.declared.rapid_stream_hasher.RapidStreamHasher.{RapidStreamHasher}
-use Rattle.stream.specs.declared.rapid_stream_hasher.Outcome.TheVariants.{Took, TooLong}
-use Rattle.stream.specs.declared.rapid_stream_hasher.Finished.TheVariants.{Hash}
+use Rattle.stream.specs.declared.rapid_stream_hasher.WriteError.TheVariants.{TooLong}
 
 -- a call
 pub data Call : Type 0 where
@@ -47,10 +46,11 @@ unfoldable pub on_list : ℕ → Settings → List ℕ → List Call → Ran (Li
 on_list L o bytes [] = record { replies = []; last = bytes }
 on_list L o bytes (write s ∷ cs) =
     pick (fits bytes (length s))
-    (first (wrote (said Took)) (on_list L o (bytes ++ s) cs))
-    (first (wrote (said (TooLong (most - length bytes)))) (on_list L o bytes cs))
+    (first (wrote (said (Ok tt))) (on_list L o (bytes ++ s) cs))
+    (first (wrote (said (Err (TooLong (most - length bytes))))) (on_list L o bytes cs))
 on_list L o bytes (finish ∷ cs) =
     first
-    (finished (ended (Hash (hash_of L o.avalanche o.protected o.secrets bytes) (chunks (16 * L) (length bytes)))))
+    (finished
+    (ended (Ok (record { hash = hash_of L o.avalanche o.protected o.secrets bytes; count = chunks (16 * L) (length bytes) }))))
     (on_list L o bytes cs)
 on_list L o bytes (reset ∷ cs) = first did_reset (on_list L o [] cs)

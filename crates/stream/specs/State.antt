@@ -1,15 +1,15 @@
 -- The state that the code keeps of a stream of L lanes, and the four calls on it (docs/RULES.md, sections 5.2 and 5.3); a chunk has 16 L bytes.
 -- Assumes nothing.
-use Rattle.std.specs.Prelude.{ℕ, ◌+◌, ◌-◌, ◌*◌, ◌^◌, Bool, true, List, [], ◌∷◌, ◌++◌, eqb, leb, length, take, drop, replicate}
+use Rattle.std.specs.Prelude.{ℕ, ◌+◌, ◌-◌, ◌*◌, ◌^◌, Bool, true, List, [], ◌∷◌, ◌++◌, eqb, leb, length, take, drop, replicate, ⊤, Result, Ok, Err}
 use Rattle.secrets.specs.Choice.{pick, every, all_are}
 use Rattle.stream.specs.Stream.{Stream, opened, feed, stream_hash}
 use Rattle.stream.specs.declared.rapid_stream_hasher.Settings.{Settings}
 use Rattle.stream.specs.declared.rapid_stream_hasher.RapidStreamHasher.{RapidStreamHasher}
-use Rattle.stream.specs.declared.rapid_stream_hasher.Outcome.{Outcome}
-use Rattle.stream.specs.declared.rapid_stream_hasher.Outcome.TheVariants.{Took, NotSound, TooLong}
+use Rattle.stream.specs.declared.rapid_stream_hasher.NotSound.{NotSound as Unsound}
+use Rattle.stream.specs.declared.rapid_stream_hasher.WriteError.{WriteError}
+use Rattle.stream.specs.declared.rapid_stream_hasher.WriteError.TheVariants.{NotSound, TooLong}
 use Rattle.stream.specs.declared.rapid_stream_hasher.Written.{Written}
 use Rattle.stream.specs.declared.rapid_stream_hasher.Finished.{Finished}
-use Rattle.stream.specs.declared.rapid_stream_hasher.Finished.TheVariants.{Hash, NotSound as Unsound}
 
 -- the stream that a state holds: 16 bytes that end the previous chunk, then the bytes that wait
 unfoldable pub view : RapidStreamHasher → Stream
@@ -57,10 +57,10 @@ pub record Said : Type 0 where
   pub room : ℕ
 
 -- 0: took; 1: not sound; 2: too long, with the room left
-abbrev pub said : Outcome → Said
-said Took = record { number = 0; room = 0 }
-said NotSound = record { number = 1; room = 0 }
-said (TooLong r) = record { number = 2; room = r }
+abbrev pub said : Result ⊤ WriteError → Said
+said (Ok _) = record { number = 0; room = 0 }
+said (Err NotSound) = record { number = 1; room = 0 }
+said (Err (TooLong r)) = record { number = 2; room = r }
 
 -- a write's answer: the state after it, and what it says
 pub record AfterWrite : Type 0 where
@@ -80,9 +80,9 @@ unfoldable pub write_of : ℕ → RapidStreamHasher → List ℕ → AfterWrite
 write_of L h s =
     pick (sound L h)
     (pick (leb (sofar L h + length s) most)
-    (record { state = taken L h s; says = said Took })
-    (record { state = h; says = said (TooLong (most - sofar L h)) }))
-    (record { state = h; says = said NotSound })
+    (record { state = taken L h s; says = said (Ok tt) })
+    (record { state = h; says = said (Err (TooLong (most - sofar L h))) }))
+    (record { state = h; says = said (Err NotSound) })
 
 -- what finish answers: a number of the table, the hash and the number of chunks mixed
 pub record Ended : Type 0 where
@@ -91,15 +91,17 @@ pub record Ended : Type 0 where
   pub count : ℕ
 
 -- 0: the hash and the count; 1: not sound, hash 0 and count 0
-abbrev pub ended : Finished → Ended
-ended (Hash v k) = record { number = 0; hash = v; count = k }
-ended Unsound = record { number = 1; hash = 0; count = 0 }
+abbrev pub ended : Result Finished Unsound → Ended
+ended (Ok f) = record { number = 0; hash = f.hash; count = f.count }
+ended (Err _) = record { number = 1; hash = 0; count = 0 }
 
 -- finish
 unfoldable pub finish_of : ℕ → RapidStreamHasher → Ended
 finish_of L h =
     let o = h.settings in
-    pick (sound L h) (ended (Hash (stream_hash L o.avalanche o.protected o.secrets (view h)) h.count)) (ended Unsound)
+    pick (sound L h)
+    (ended (Ok (record { hash = stream_hash L o.avalanche o.protected o.secrets (view h); count = h.count })))
+    (ended (Err (record {})))
 
 -- reset: the opening state of the same settings, whatever the state
 unfoldable pub reset_of : RapidStreamHasher → RapidStreamHasher

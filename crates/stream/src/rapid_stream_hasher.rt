@@ -5,6 +5,7 @@ ghost use Rattle.rapidhash.specs.Words.{word};
 ghost use Rattle.stream.specs.Stream.{feed, stream_hash, slide};
 ghost use Rattle.stream.specs.State.{view, hold, opening_of, sofar, most, sound, taken, write_of, finish_of, reset_of};
 ghost use Rattle.stream.specs.State.{answered, ended};
+ghost use Rattle.stream.specs.declared.rapid_stream_hasher.WriteError.TheVariants.{NotSound};
 
 use rapidhash::util::read::{all_zero, read_u64};
 use rapidhash::v3::lanes::{Size, join, mix_chunks, mix_first};
@@ -44,27 +45,38 @@ pub struct RapidStreamHasher {
     pub buffer: Buffer,
 }
 
-// What a write says: all bytes were taken, or none, since the state is not sound or the stream would be too long, with
-// the room that is left.
-#[derive(Clone, Copy)]
-pub enum Outcome {
-    Took,
+// A state that is not sound.
+#[derive(Clone, Copy, Debug, PartialEq, Eq)]
+pub struct NotSound;
+
+// Why a write took no bytes: the state is not sound, or the stream would be too long, with the room that is left.
+#[derive(Clone, Copy, Debug, PartialEq, Eq)]
+pub enum WriteError {
     NotSound,
     TooLong(u64),
 }
 
-// A write's answer: the next state beside what the write says.
+impl From<NotSound> for WriteError {
+    ghost from_gives = { λ _ e. e ≡ NotSound };
+
+    fn from(_e: NotSound) -> WriteError {
+        WriteError::NotSound
+    }
+}
+
+// A write's answer: the next state, and whether all bytes were taken. A struct beside a result, since a refusal gives
+// the state back too.
 #[derive(Clone, Copy)]
 pub struct Written {
     pub state: RapidStreamHasher,
-    pub outcome: Outcome,
+    pub outcome: Result<(), WriteError>,
 }
 
-// What finish finds: the hash and the number of chunks mixed, or a state that is not sound.
-#[derive(Clone, Copy)]
-pub enum Finished {
-    Hash(u64, u64),
-    NotSound,
+// What finish finds: the hash and the number of chunks mixed.
+#[derive(Clone, Copy, Debug, PartialEq, Eq)]
+pub struct Finished {
+    pub hash: u64,
+    pub count: u64,
 }
 
 impl RapidStreamHasher {
@@ -86,31 +98,34 @@ impl RapidStreamHasher {
         if !is_sound(self) {
             return Written {
                 state: self,
-                outcome: Outcome::NotSound,
+                outcome: Err(WriteError::NotSound),
             };
         }
         let room = room_left(self.count, self.waiting);
         if room < data.len() as u64 {
             return Written {
                 state: self,
-                outcome: Outcome::TooLong(room),
+                outcome: Err(WriteError::TooLong(room)),
             };
         }
         let next = with_bytes(self, data);
         Written {
             state: next,
-            outcome: Outcome::Took,
+            outcome: Ok(()),
         }
     }
 
     // The hash of the bytes so far, and how many chunks were mixed. The state stays the caller's.
-    pub fn finish(self) -> Finished
+    pub fn finish(self) -> Result<Finished, NotSound>
         ensures { ended result ≡ finish_of 7 self }
     {
         if is_sound(self) {
-            Finished::Hash(hash_of(self), self.count)
+            Ok(Finished {
+                hash: hash_of(self),
+                count: self.count,
+            })
         } else {
-            Finished::NotSound
+            Err(NotSound)
         }
     }
 

@@ -1,10 +1,10 @@
 // The stream, lent and changed in place.
 ghost use Rattle.std.specs.Prelude.{◌≡◌};
-ghost use Rattle.stream.specs.State.{opening_of, write_of, finish_of, reset_of, said};
+ghost use Rattle.stream.specs.State.{opening_of, write_of, finish_of, reset_of, said, ended};
 ghost use Rattle.tulgranie.specs.Answers.{said_by, wrote_with, answer_of, ended_of};
 
 use secrets::v3::seed::RapidSecrets;
-use stream::rapid_stream_hasher::{Finished, Outcome, RapidStreamHasher};
+use stream::rapid_stream_hasher::{Finished, NotSound, RapidStreamHasher, WriteError};
 
 // What a write says: a number of the table, and the room left beside number 2.
 #[repr(C)]
@@ -31,6 +31,37 @@ pub struct StreamEnded {
     pub count: u64,
 }
 
+impl From<Result<(), WriteError>> for StreamWrote {
+    ghost from_gives = { λ outcome w. said_by w ≡ said outcome };
+
+    fn from(outcome: Result<(), WriteError>) -> StreamWrote {
+        match outcome {
+            Ok(()) => StreamWrote { number: 0, room: 0 },
+            Err(WriteError::NotSound) => StreamWrote { number: 1, room: 0 },
+            Err(WriteError::TooLong(room)) => StreamWrote { number: 2, room },
+        }
+    }
+}
+
+impl From<Result<Finished, NotSound>> for StreamEnded {
+    ghost from_gives = { λ found e. ended_of e ≡ ended found };
+
+    fn from(found: Result<Finished, NotSound>) -> StreamEnded {
+        match found {
+            Ok(Finished { hash, count }) => StreamEnded {
+                number: 0,
+                hash,
+                count,
+            },
+            Err(NotSound) => StreamEnded {
+                number: 1,
+                hash: 0,
+                count: 0,
+            },
+        }
+    }
+}
+
 // The opening state.
 pub fn tulgranie_stream_open(
     secrets: RapidSecrets,
@@ -55,7 +86,7 @@ pub fn tulgranie_stream_write(stream: &mut RapidStreamHasher, data: &[u8]) -> St
 pub fn tulgranie_stream_finish(stream: &RapidStreamHasher) -> StreamEnded
     ensures { ended_of result ≡ finish_of 7 stream.now }
 {
-    finished(*stream)
+    (*stream).finish().into()
 }
 
 // The opening state of the same settings, in place.
@@ -75,35 +106,6 @@ fn written(state: RapidStreamHasher, data: &[u8]) -> StreamWritten
     let next = w.state;
     StreamWritten {
         state: next,
-        says: wrote(outcome),
-    }
-}
-
-fn wrote(outcome: Outcome) -> StreamWrote
-    ensures { said_by result ≡ said outcome }
-{
-    match outcome {
-        Outcome::Took => StreamWrote { number: 0, room: 0 },
-        Outcome::NotSound => StreamWrote { number: 1, room: 0 },
-        Outcome::TooLong(room) => StreamWrote { number: 2, room },
-    }
-}
-
-// Finish by value, its answer as a number.
-fn finished(state: RapidStreamHasher) -> StreamEnded
-    ensures { ended_of result ≡ finish_of 7 state }
-{
-    let finished = state.finish();
-    match finished {
-        Finished::Hash(hash, count) => StreamEnded {
-            number: 0,
-            hash,
-            count,
-        },
-        Finished::NotSound => StreamEnded {
-            number: 1,
-            hash: 0,
-            count: 0,
-        },
+        says: outcome.into(),
     }
 }
