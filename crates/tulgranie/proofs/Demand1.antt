@@ -9,9 +9,9 @@ use contract.Monad.{Fun}
 use Rattle.secrets.proofs.Demand1.{OneAnswer, one, told_back}
 use Rattle.lent.proofs.Demand1.{OneAfter, both}
 use Rattle.stream.specs.declared.rapid_stream_hasher.RapidStreamHasher.{RapidStreamHasher}
-use Rattle.tulgranie.specs.Answers.{told_of, answer_of, ended_of}
+use Rattle.stream.specs.State.{AfterWrite}
+use Rattle.tulgranie.specs.Answers.{told_of, wrote_with, ended_of}
 use Rattle.tulgranie.specs.declared.streams.StreamWrote.{StreamWrote}
-use Rattle.tulgranie.specs.declared.streams.StreamWritten.{StreamWritten}
 use Rattle.tulgranie.specs.declared.streams.StreamEnded.{StreamEnded}
 use Rattle.tulgranie.specs.declared.labels.Answer.{Answer}
 use Rattle.tulgranie.proofs.hashes.tulgranie_word8.Reads as word8
@@ -39,12 +39,16 @@ answer_apart =
     (λ t. record { number = t.number; place = t.place; tag = t.tag; start = t.start; length = t.length; fingerprint = t.fingerprint })
     (λ x. refl)
 
--- a write's answer from the state and what is said
-abbrev written : RapidStreamHasher → StreamWrote → StreamWritten
-written h w = record { state = h; says = w }
+-- the state after a write, and its answer beside it
+abbrev pub beside : RapidStreamHasher → StreamWrote → RapidStreamHasher × StreamWrote
+beside h w = (h, w)
 
-pub written_apart : (x y : StreamWritten) → answer_of x ≡ answer_of y → x ≡ y
-written_apart = told_back answer_of (λ a. written a.state (record { number = a.says.number; room = a.says.room })) (λ x. refl)
+-- both are told back from what they tell together
+abbrev told_with : RapidStreamHasher × StreamWrote → AfterWrite
+told_with p = wrote_with p.0 p.1
+
+pub written_apart : (x y : RapidStreamHasher × StreamWrote) → told_with x ≡ told_with y → x ≡ y
+written_apart = told_back told_with (λ a. (a.state, record { number = a.says.number; room = a.says.room })) (λ x. refl)
 
 pub ended_apart : (x y : StreamEnded) → ended_of x ≡ ended_of y → x ≡ y
 ended_apart = told_back ended_of (λ e. record { number = e.number; hash = e.hash; count = e.count }) (λ x. refl)
@@ -93,9 +97,9 @@ fingerprint_one κ a r₁ r₂ s₁ s₂ p q = answer_apart r₁ r₂ (one p q)
 
 -- of a lent stream the answer and the state after it are fixed
 module _ {M : Type 1} {𝓤 : Ura M} (𝓛 : Logic 𝓤) (mem : Memory → SProp 𝓤) (run : Routine → Fun 𝓤) where
-  pub stream_write_one : OneAfter 𝓤 stream-write.ended (stream-write.clauses 𝓛 mem run) (λ κs r e. written e.0.now r)
+  pub stream_write_one : OneAfter 𝓤 stream-write.ended (stream-write.clauses 𝓛 mem run) (λ κs r e. beside e.0.now r)
   stream_write_one κs a g r₁ r₂ e₁ e₂ =
-      both 𝓛 mem run _ _ (λ p q. written_apart (written e₁.0.now r₁) (written e₂.0.now r₂) (one p q))
+      both 𝓛 mem run _ _ (λ p q. written_apart (beside e₁.0.now r₁) (beside e₂.0.now r₂) (one p q))
 
   pub stream_finish_one : OneAfter 𝓤 stream-finish.ended (stream-finish.clauses 𝓛 mem run) (λ κs r e. r)
   stream_finish_one κs a g r₁ r₂ e₁ e₂ = both 𝓛 mem run _ _ (λ p q. ended_apart r₁ r₂ (one p q))

@@ -5,7 +5,6 @@ use Rattle.stream.specs.declared.rapid_stream_hasher.RapidStreamHasher.{RapidStr
 use Rattle.label.specs.Numbers.{Told}
 use Rattle.tulgranie.specs.declared.hashes.Value.{Value}
 use Rattle.tulgranie.specs.declared.streams.StreamWrote.{StreamWrote}
-use Rattle.tulgranie.specs.declared.streams.StreamWritten.{StreamWritten}
 use Rattle.tulgranie.specs.declared.streams.StreamEnded.{StreamEnded}
 use Rattle.tulgranie.specs.declared.labels.Answer.{Answer}
 
@@ -25,10 +24,6 @@ said_by w = record { number = w.number; room = w.room }
 -- with the state after it
 abbrev pub wrote_with : RapidStreamHasher → StreamWrote → AfterWrite
 wrote_with h w = record { state = h; says = said_by w }
-
--- and both in one
-abbrev pub answer_of : StreamWritten → AfterWrite
-answer_of w = wrote_with w.state w.says
 
 -- what finish finds, as the stream's own
 abbrev pub ended_of : StreamEnded → Ended

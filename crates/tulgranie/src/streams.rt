@@ -1,7 +1,7 @@
 // The stream, lent and changed in place.
 ghost use Rattle.std.specs.Prelude.{◌≡◌};
 ghost use Rattle.stream.specs.State.{opening_of, write_of, finish_of, reset_of, said, ended};
-ghost use Rattle.tulgranie.specs.Answers.{said_by, wrote_with, answer_of, ended_of};
+ghost use Rattle.tulgranie.specs.Answers.{said_by, wrote_with, ended_of};
 
 use secrets::v3::seed::RapidSecrets;
 use stream::rapid_stream_hasher::{Finished, NotSound, RapidStreamHasher, WriteError};
@@ -12,14 +12,6 @@ use stream::rapid_stream_hasher::{Finished, NotSound, RapidStreamHasher, WriteEr
 pub struct StreamWrote {
     pub number: u64,
     pub room: u64,
-}
-
-// A write's answer by value: the next state beside what the write says.
-#[repr(C)]
-#[derive(Clone, Copy)]
-pub struct StreamWritten {
-    pub state: RapidStreamHasher,
-    pub says: StreamWrote,
 }
 
 // What finish finds: a number of the table, the hash and the number of chunks mixed.
@@ -77,35 +69,19 @@ pub fn tulgranie_stream_open(
 pub fn tulgranie_stream_write(stream: &mut RapidStreamHasher, data: &[u8]) -> StreamWrote
     ensures { wrote_with stream.new result ≡ write_of 7 stream.old «data».now }
 {
-    let w = written(*stream, data);
-    *stream = w.state;
-    w.says
+    lent::write(stream, data).into()
 }
 
 // The hash of the bytes so far, and how many chunks were mixed. The stream is only looked at.
 pub fn tulgranie_stream_finish(stream: &RapidStreamHasher) -> StreamEnded
     ensures { ended_of result ≡ finish_of 7 stream.now }
 {
-    (*stream).finish().into()
+    lent::finish(stream).into()
 }
 
 // The opening state of the same settings, in place.
 pub fn tulgranie_stream_reset(stream: &mut RapidStreamHasher)
     ensures { stream.new ≡ reset_of stream.old }
 {
-    let next = (*stream).reset();
-    *stream = next;
-}
-
-// A write by value, its outcome as a number.
-fn written(state: RapidStreamHasher, data: &[u8]) -> StreamWritten
-    ensures { answer_of result ≡ write_of 7 state «data».now }
-{
-    let w = state.write(data);
-    let outcome = w.outcome;
-    let next = w.state;
-    StreamWritten {
-        state: next,
-        says: outcome.into(),
-    }
+    lent::reset(stream);
 }
