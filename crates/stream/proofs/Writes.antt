@@ -125,11 +125,10 @@ module _ (h : RapidStreamHasher) (size : length h.buffer ≡ 128) (ok : sound la
 
   -- the same in the parts that the code lends
   pub inner_filled : (s full : List ℕ) {l : List ℕ} {r : RapidStreamHasher} → width < h.waiting + length s
-      → full ≡ take (16 + h.waiting) h.buffer ++ take (112 - h.waiting - 0) s ++ drop (16 + h.waiting + length (take (112 - h.waiting - 0) s)) h.buffer
+      → full ≡ take (16 + h.waiting) h.buffer ++ take (112 - h.waiting) s ++ drop (16 + h.waiting + length (take (112 - h.waiting) s)) h.buffer
       → length full ≡ 128
       → l ≡ first_of lanes h.settings.protected h.settings.secrets.secrets h.lanes (take (128 - 16) (drop 16 full))
       → r ≡ went_on h l (h.count + 1) (take (128 - 112) (drop 112 full)) (take (length s - (112 - h.waiting)) (drop (112 - h.waiting) s))
       → r ≡ taken lanes h s
   inner_filled s full over e n el er =
-      let z : 112 - h.waiting - 0 ≡ 112 - h.waiting = omega arith in
-      chunk_filled s full over (rw z at e) (el ∙ rw (to_end full 16 128 (sym n))) (er ∙ rw (to_end full 112 128 (sym n), to_end s (112 - h.waiting) (length s) refl))
+      chunk_filled s full over e (el ∙ rw (to_end full 16 128 (sym n))) (er ∙ rw (to_end full 112 128 (sym n), to_end s (112 - h.waiting) (length s) refl))

@@ -1,6 +1,6 @@
 -- The state that the code keeps of a stream of L lanes, and the four calls on it (docs/RULES.md, sections 5.2 and 5.3); a chunk has 16 L bytes.
 -- Assumes nothing.
-use Rattle.std.specs.Prelude.{ℕ, ◌+◌, ◌-◌, ◌*◌, ◌^◌, Bool, true, List, [], ◌∷◌, ◌++◌, eqb, leb, length, take, drop, replicate, ⊤, Result, Ok, Err}
+use Rattle.std.specs.Prelude.{ℕ, ◌+◌, ◌-◌, ◌*◌, ◌^◌, Bool, true, false, List, [], ◌∷◌, ◌++◌, eqb, leb, length, take, drop, replicate, ⊤, Result, Ok, Err}
 use Rattle.secrets.specs.Choice.{pick, every, all_are}
 use Rattle.stream.specs.Stream.{Stream, opened, feed, stream_hash}
 use Rattle.stream.specs.declared.rapid_stream_hasher.Settings.{Settings}
@@ -51,6 +51,11 @@ sound L h =
     ∷ leb (sofar L h) most
     ∷ [])
 
+-- the clauses of it on how a state is begun: before the first chunk, and after it
+abbrev pub begun : RapidStreamHasher → Bool
+begun h =
+    pick (eqb h.count 0) (pick (all_are h.settings.secrets.seed h.lanes) (all_are 0 (take 16 h.buffer)) false) (leb 1 h.waiting)
+
 -- what a call says: a number of the table, and the room left beside 2
 pub record Said : Type 0 where
   pub number : ℕ
@@ -70,6 +75,11 @@ pub record AfterWrite : Type 0 where
 -- what the struct that a write returns answers
 abbrev pub answered : Written → AfterWrite
 answered w = record { state = w.state; says = said w.outcome }
+
+-- what a write that gives no state where it refuses leads to: the state as it was stays
+abbrev pub tried : RapidStreamHasher → Result RapidStreamHasher WriteError → AfterWrite
+tried h (Ok n) = record { state = n; says = said (Ok tt) }
+tried h (Err e) = record { state = h; says = said (Err e) }
 
 -- the state after all of the bytes
 unfoldable pub taken : ℕ → RapidStreamHasher → List ℕ → RapidStreamHasher

@@ -1,10 +1,11 @@
 // The stream hasher, as the Rust's v3/rapid_stream_hasher, by value: a state goes in and the next comes out.
-ghost use Rattle.std.specs.Prelude.{◌≡◌, true, false, [], ◌++◌, ◌+◌, ◌-◌, ◌*◌, ◌<◌, ◌≤◌, leb, length, take, drop, replicate};
+ghost use Rattle.std.specs.Prelude.{◌≡◌, true, false, [], ◌++◌, ◌+◌, ◌-◌, ◌*◌, ◌<◌, ◌≤◌, leb, length, take, drop, replicate, MatchResult, ◌==◌};
+ghost use Rattle.std.specs.List.{list_all};
 ghost use Rattle.secrets.specs.Choice.{pick, all_are};
 ghost use Rattle.rapidhash.specs.Words.{word};
 ghost use Rattle.stream.specs.Stream.{feed, stream_hash, slide};
 ghost use Rattle.stream.specs.State.{view, hold, opening_of, sofar, most, sound, taken, write_of, finish_of, reset_of};
-ghost use Rattle.stream.specs.State.{answered, ended};
+ghost use Rattle.stream.specs.State.{begun, answered, tried, ended};
 ghost use Rattle.stream.specs.declared.rapid_stream_hasher.WriteError.TheVariants.{NotSound};
 
 use rapidhash::util::read::{all_zero, read_u64};
@@ -95,23 +96,15 @@ impl RapidStreamHasher {
     pub fn write(self, data: &[u8]) -> Written
         ensures { answered result ≡ write_of 7 self «data».now }
     {
-        if !is_sound(self) {
-            return Written {
+        match self.with_all(data) {
+            Ok(state) => Written {
+                state,
+                outcome: Ok(()),
+            },
+            Err(error) => Written {
                 state: self,
-                outcome: Err(WriteError::NotSound),
-            };
-        }
-        let room = room_left(self.count, self.waiting);
-        if room < data.len() as u64 {
-            return Written {
-                state: self,
-                outcome: Err(WriteError::TooLong(room)),
-            };
-        }
-        let next = with_bytes(self, data);
-        Written {
-            state: next,
-            outcome: Ok(()),
+                outcome: Err(error),
+            },
         }
     }
 
@@ -119,22 +112,41 @@ impl RapidStreamHasher {
     pub fn finish(self) -> Result<Finished, NotSound>
         ensures { ended result ≡ finish_of 7 self }
     {
-        if is_sound(self) {
-            Ok(Finished {
-                hash: hash_of(self),
-                count: self.count,
-            })
-        } else {
-            Err(NotSound)
-        }
+        let h = self.checked()?;
+        Ok(Finished {
+            hash: h.hash(),
+            count: self.count,
+        })
     }
 
     // The opening state of the same settings.
     pub fn reset(self) -> Self
         ensures { result ≡ reset_of self }
     {
-        let settings = self.settings;
-        opening(settings)
+        opening(self.settings)
+    }
+
+    // The state after all bytes, or why it does not take them.
+    fn with_all(self, data: &[u8]) -> Result<Self, WriteError>
+        ensures { tried self result ≡ write_of 7 self «data».now }
+    {
+        let h = self.checked()?;
+        let room = h.room();
+        if room < data.len() as u64 {
+            return Err(WriteError::TooLong(room));
+        }
+        Ok(h.with_bytes(data))
+    }
+
+    // The same state, known to be sound.
+    fn checked(self) -> Result<Sound, NotSound>
+        ensures { MatchResult result (λ h. h.state ≡ self) (λ _. sound 7 self ≡ false) }
+    {
+        if is_sound(self) {
+            Ok(Sound { state: self })
+        } else {
+            Err(NotSound)
+        }
     }
 }
 
@@ -162,36 +174,36 @@ fn blank() -> Buffer
 fn is_sound(h: RapidStreamHasher) -> bool
     ensures { result ≡ sound 7 h }
 {
-    let m = h.waiting;
-    let k = h.count;
-    let buffer = h.buffer;
-    if !is_sized(k, m) {
-        return false;
-    }
-    if !is_clear_after(buffer, m) {
-        return false;
-    }
-    if 0 < k {
-        return 1 <= m;
-    }
-    let lanes = h.lanes;
-    if !lanes_are(lanes, h.settings.secrets.seed) {
-        return false;
-    }
-    is_clear_before(buffer)
+    is_sized(h.count, h.waiting) && is_in_order(h)
 }
 
 // Whether at most a chunk waits and the stream is not too long. By a difference, so that no sum wraps.
 fn is_sized(count: u64, waiting: usize) -> bool
     ensures { result ≡ pick (leb waiting 112) (leb (112 * count + waiting) most) false }
 {
-    if CHUNK_SIZE < waiting {
-        return false;
+    waiting <= CHUNK_SIZE
+        && count <= MOST_CHUNKS
+        && waiting as u64 <= u64::MAX - CHUNK_SIZE as u64 * count
+}
+
+// Whether nothing stands behind the bytes that wait, and the state is begun as it must be.
+fn is_in_order(h: RapidStreamHasher) -> bool
+    requires { h.waiting ≤ 112 }
+    ensures { result ≡ pick (all_are 0 (drop (16 + h.waiting) h.buffer)) (begun h) false }
+{
+    is_clear_after(h.buffer, h.waiting) && is_begun(h)
+}
+
+// Whether before the first chunk all lanes are the seed and nothing stands before the bytes that wait, and whether
+// after it at least one byte waits.
+fn is_begun(h: RapidStreamHasher) -> bool
+    ensures { result ≡ begun h }
+{
+    if 0 < h.count {
+        1 <= h.waiting
+    } else {
+        lanes_are(h.lanes, h.settings.secrets.seed) && is_clear_before(h.buffer)
     }
-    if MOST_CHUNKS < count {
-        return false;
-    }
-    waiting as u64 <= u64::MAX - CHUNK_SIZE as u64 * count
 }
 
 // Whether nothing stands behind the bytes that wait.
@@ -199,98 +211,118 @@ fn is_clear_after(buffer: Buffer, waiting: usize) -> bool
     requires { waiting ≤ 112 }
     ensures { result ≡ all_are 0 (drop (16 + waiting) buffer) }
 {
-    let at = CHUNK_PREV + waiting;
-    all_zero(&buffer[at..])
+    all_zero(&buffer[CHUNK_PREV + waiting..])
 }
 
 // Whether nothing stands before them.
 fn is_clear_before(buffer: Buffer) -> bool
     ensures { result ≡ all_are 0 (take 16 buffer) }
 {
-    all_zero(&buffer[0..CHUNK_PREV])
+    all_zero(&buffer[..CHUNK_PREV])
 }
 
 // Whether all lanes are one number.
 fn lanes_are(lanes: [u64; 7], seed: u64) -> bool
-    ensures { result ≡ all_are seed lanes }
+    ensures { result ≡ list_all (λ lane. lane == seed) lanes }
 {
-    for j in 0..7 {
-        if lanes[j] != seed {
-            return false;
+    lanes.iter().all(|lane| *lane == seed)
+}
+
+// A sound state: one that may be gone on from. With it, two bounds that soundness tells.
+#[derive(Clone, Copy)]
+struct Sound {
+    state: RapidStreamHasher,
+    ghost is_sound: { sound 7 state ≡ true },
+    ghost within: { state.waiting ≤ 112 },
+    ghost short: { 112 * state.count + state.waiting ≤ most },
+}
+
+impl Sound {
+    // How many bytes more the stream may take.
+    fn room(self) -> u64
+        ensures { result ≡ most - sofar 7 self.state }
+    {
+        u64::MAX - (CHUNK_SIZE as u64 * self.state.count + self.state.waiting as u64)
+    }
+
+    // All bytes taken: while they fit they only wait.
+    fn with_bytes(self, data: &[u8]) -> RapidStreamHasher
+        requires { sofar 7 self.state + length «data».now ≤ most }
+        ensures { result ≡ taken 7 self.state «data».now }
+    {
+        let m = self.state.waiting;
+        if data.len() <= CHUNK_SIZE - m {
+            self.waited(data)
+        } else {
+            self.write_inner(data)
         }
     }
-    true
-}
 
-// How many bytes more the stream may take.
-fn room_left(count: u64, waiting: usize) -> u64
-    requires { 112 * count + waiting ≤ most }
-    ensures { result ≡ most - (112 * count + waiting) }
-{
-    u64::MAX - (CHUNK_SIZE as u64 * count + waiting as u64)
-}
-
-// All bytes taken: while they fit they only wait.
-fn with_bytes(h: RapidStreamHasher, data: &[u8]) -> RapidStreamHasher
-    requires { (sound 7 h ≡ true) × (sofar 7 h + length «data».now ≤ most) }
-    ensures { result ≡ taken 7 h «data».now }
-{
-    let m = h.waiting;
-    if data.len() <= CHUNK_SIZE - m {
-        waited(h, data)
-    } else {
-        write_inner(h, data)
+    // The bytes come to those that wait, in the place of zeros.
+    fn waited(self, data: &[u8]) -> RapidStreamHasher
+        requires { self.state.waiting + length «data».now ≤ 112 }
+        ensures { result ≡ taken 7 self.state «data».now }
+    {
+        let h = self.state;
+        RapidStreamHasher {
+            waiting: h.waiting + data.len(),
+            buffer: put(h.buffer, CHUNK_PREV + h.waiting, data),
+            ..h
+        }
     }
-}
 
-// The bytes come to those that wait, in the place of zeros.
-fn waited(h: RapidStreamHasher, data: &[u8]) -> RapidStreamHasher
-    requires { (sound 7 h ≡ true) × (h.waiting + length «data».now ≤ 112) }
-    ensures { result ≡ taken 7 h «data».now }
-{
-    let m = h.waiting;
-    let settings = h.settings;
-    let lanes = h.lanes;
-    let buffer = h.buffer;
-    RapidStreamHasher {
-        settings,
-        lanes,
-        count: h.count,
-        waiting: m + data.len(),
-        buffer: put(buffer, CHUNK_PREV + m, data),
+    // More bytes than fit. Where none waits, the data's own chunks are the first; else the waiting chunk is filled up
+    // and mixed, and the data goes on from there.
+    fn write_inner(self, data: &[u8]) -> RapidStreamHasher
+        requires { (112 < self.state.waiting + length «data».now) × (sofar 7 self.state + length «data».now ≤ most) }
+        ensures { result ≡ taken 7 self.state «data».now }
+    {
+        let h = self.state;
+        let m = h.waiting;
+        if m == 0 {
+            return from_chunk_end(h.settings, h.lanes, h.count, &h.buffer[..CHUNK_PREV], data);
+        }
+        let fill = CHUNK_SIZE - m;
+        let full = put(h.buffer, CHUNK_PREV + m, &data[..fill]);
+        let next = mix_first(
+            &full[CHUNK_PREV..],
+            h.settings.secrets.secrets,
+            h.lanes,
+            Size::Full,
+            h.settings.protected,
+        );
+        from_chunk_end(
+            h.settings,
+            next,
+            h.count + 1,
+            &full[CHUNK_SIZE..],
+            &data[fill..],
+        )
     }
-}
 
-// More bytes than fit. Where none waits, the data's own chunks are the first; else the waiting chunk is filled up and
-// mixed, and the data goes on from there.
-fn write_inner(h: RapidStreamHasher, data: &[u8]) -> RapidStreamHasher
-    requires { (sound 7 h ≡ true) × (112 < h.waiting + length «data».now) × (sofar 7 h + length «data».now ≤ most) }
-    ensures { result ≡ taken 7 h «data».now }
-{
-    let m = h.waiting;
-    let settings = h.settings;
-    let lanes = h.lanes;
-    let buffer = h.buffer;
-    if m == 0 {
-        return from_chunk_end(settings, lanes, h.count, &buffer[0..CHUNK_PREV], data);
+    // The hash: while no chunk is mixed, that of the bytes that wait.
+    fn hash(self) -> u64
+        ensures { result ≡ stream_hash 7 self.state.settings.avalanche self.state.settings.protected
+            self.state.settings.secrets (view self.state) }
+    {
+        let h = self.state;
+        let m = h.waiting;
+        let settings = h.settings;
+        let secrets = settings.secrets;
+        let rest = &h.buffer[CHUNK_PREV..CHUNK_PREV + m];
+        if h.count == 0 {
+            return rapidhash_v3_inline(rest, secrets, settings.avalanche, true, settings.protected);
+        }
+        let s = secrets.secrets;
+        let seed = join(h.lanes, Size::Full);
+        let e = Ends {
+            a: word_at(&h.buffer, m) ^ m as u64,
+            b: word_at(&h.buffer, m + 8),
+            seed: tail_steps(rest, s[1], s[2], seed, settings.protected),
+            r: m as u64,
+        };
+        last_step(e, s, settings.avalanche, settings.protected)
     }
-    let fill = CHUNK_SIZE - m;
-    let full = put(buffer, CHUNK_PREV + m, &data[0..fill]);
-    let s = settings.secrets.secrets;
-    let next = mix_first(
-        &full[CHUNK_PREV..],
-        s,
-        lanes,
-        Size::Full,
-        settings.protected,
-    );
-    from_chunk_end(
-        settings,
-        next,
-        h.count + 1,
-        &full[CHUNK_SIZE..],
-        &data[fill..],
-    )
 }
 
 // Bytes to a stream in which none wait, after the 16 that end its last chunk: whole chunks are mixed straight from the
@@ -306,8 +338,14 @@ fn from_chunk_end<'a>(
     ensures { result ≡ hold settings (feed 7 settings.protected settings.secrets.secrets
         (record { lanes = lanes; count = count; prev = prev.now; rest = [] }) «data».now) }
 {
-    let s = settings.secrets.secrets;
-    let x = mix_chunks(data, s, lanes, Size::Full, false, settings.protected);
+    let x = mix_chunks(
+        data,
+        settings.secrets.secrets,
+        lanes,
+        Size::Full,
+        false,
+        settings.protected,
+    );
     let at = x.at;
     let next = x.lanes;
     let ended = put(blank(), 0, last_sixteen(prev, data, at));
@@ -340,42 +378,6 @@ fn last_sixteen<'a>(prev: &'a [u8], data: &'a [u8], at: usize) -> &'a [u8]
     } else {
         prev
     }
-}
-
-// The hash of a sound state: while no chunk is mixed, that of the bytes that wait.
-fn hash_of(h: RapidStreamHasher) -> u64
-    requires { h.waiting ≤ 112 }
-    ensures { result ≡ stream_hash 7 h.settings.avalanche h.settings.protected h.settings.secrets (view h) }
-{
-    let m = h.waiting;
-    let settings = h.settings;
-    let secrets = settings.secrets;
-    let buffer = h.buffer;
-    if h.count == 0 {
-        return rapidhash_v3_inline(
-            &buffer[CHUNK_PREV..CHUNK_PREV + m],
-            secrets,
-            settings.avalanche,
-            true,
-            settings.protected,
-        );
-    }
-    let s = secrets.secrets;
-    let l = h.lanes;
-    let seed = join(l, Size::Full);
-    let e = Ends {
-        a: word_at(&buffer, m) ^ m as u64,
-        b: word_at(&buffer, m + 8),
-        seed: tail_steps(
-            &buffer[CHUNK_PREV..CHUNK_PREV + m],
-            s[1],
-            s[2],
-            seed,
-            settings.protected,
-        ),
-        r: m as u64,
-    };
-    last_step(e, s, settings.avalanche, settings.protected)
 }
 
 // The word at a place that is known to be there.
