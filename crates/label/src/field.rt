@@ -76,7 +76,7 @@ impl Lengths {
     fn allows(self, length: usize) -> bool
         ensures { result ≡ allows self length }
     {
-        self.least <= length && length <= self.most
+        (self.least..=self.most).contains(&length)
     }
 }
 
@@ -139,6 +139,7 @@ fn field_at(record: &[u8], place: usize, before: u8) -> Result<Field, Refusal>
 }
 
 // The two bytes of a length at a place that is known to be there, least significant first.
+#[tactic(auto, using(crate::proofs::HeaderLaws::word_two))]
 fn length_at(record: &[u8], at: usize) -> usize
     requires { at + 2 ≤ length «record».now }
     ensures { result ≡ word 2 «record».now at }
