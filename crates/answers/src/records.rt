@@ -3,10 +3,10 @@ ghost use Rattle.std.specs.Prelude.{◌≤◌, length};
 
 use crate::show::{shows_bytes, shows_number, shows_numbers, shows_word};
 use crate::words::{bytes_of, least};
-use label::field::{Lookup, Refusal};
+use label::field::Refusal;
 use label::finding::{find, part};
-use label::fingerprint::{Printed, fingerprint};
-use label::reading::{Reading, read};
+use label::fingerprint::fingerprint;
+use label::reading::read;
 use secrets::v3::seed::RapidSecrets;
 use std::io;
 use stream::rapid_stream_hasher::{Finished, RapidStreamHasher};
@@ -18,8 +18,8 @@ pub(crate) fn shows_reading(rt: &impl Print, text: &[u8]) -> io::Result<()> {
     let count = bytes.count;
     let reading = read(&held[0..count]);
     match reading {
-        Reading::Good => shows_numbers(rt, 0, 0, 0),
-        Reading::Refused(r) => shows_refusal(rt, r),
+        Ok(()) => shows_numbers(rt, 0, 0, 0),
+        Err(r) => shows_refusal(rt, r),
     }
 }
 
@@ -33,11 +33,8 @@ pub(crate) fn shows_finding(rt: &impl Print, text: &[u8], list: &[u8]) -> io::Re
     let many = tags.count;
     let found = find(&held[0..count], &listed[0..many]);
     match found {
-        Lookup::At(f) => shows_numbers(rt, 0, f.tag as u64, f.place as u64)?,
-        Lookup::Refused(r) => {
-            let why = r.why;
-            shows_numbers(rt, why.number(), 0, r.place as u64)?
-        }
+        Ok(f) => shows_numbers(rt, 0, f.tag as u64, f.place as u64)?,
+        Err(r) => { shows_numbers(rt, u64::from(r.why), 0, r.place as u64)? }
     }
     print!(rt; " ")?;
     shows_bytes(rt, part(&held[0..count], &listed[0..many]))
@@ -55,12 +52,12 @@ pub(crate) fn shows_fingerprint(
     let count = bytes.count;
     let printed = fingerprint(&held[0..count], secrets);
     match printed {
-        Printed::Print(hash) => {
+        Ok(hash) => {
             shows_numbers(rt, 0, 0, 0)?;
             shows_word(rt, hash)?;
             shows_number(rt, cuts(&held[0..count], secrets, hash))
         }
-        Printed::Refused(r) => {
+        Err(r) => {
             shows_refusal(rt, r)?;
             shows_word(rt, 0)?;
             shows_number(rt, 0)
@@ -69,8 +66,7 @@ pub(crate) fn shows_fingerprint(
 }
 
 fn shows_refusal(rt: &impl Print, r: Refusal) -> io::Result<()> {
-    let why = r.why;
-    shows_numbers(rt, why.number(), r.place as u64, 0)
+    shows_numbers(rt, u64::from(r.why), r.place as u64, 0)
 }
 
 // At how many places a cut in two leaves the fingerprint as it is: every place counts where the values are joined.

@@ -1,5 +1,5 @@
 -- The first bytes of a record: which of its fields they hold, where they end, and what they leave as it was. Assumes nothing.
-use Rattle.std.proofs.Common.{◌≡◌, ℕ, ◌+◌, ◌-◌, ◌<◌, ◌≤◌, List, [], ◌∷◌, ◌++◌, length, get_or, take, sym, refl, ap, ◌∙◌, append_assoc, arith, length-append, length-take-le, get_or-take}
+use Rattle.std.proofs.Common.{◌≡◌, ℕ, ◌+◌, ◌-◌, ◌<◌, ◌≤◌, List, [], ◌∷◌, ◌++◌, length, get_or, take, sym, refl, ap, ◌∙◌, append_assoc, arith, length-append, length-take-le, get_or-take, Ok}
 use Rattle.std.proofs.Math.Decide.{dec_le, dec_lt}
 use Rattle.rapidhash.specs.Words.{word}
 use Rattle.rapidhash.proofs.Words.{word-take}
@@ -10,7 +10,6 @@ use Rattle.label.specs.Good.Ascending.{none as no-tags}
 use Rattle.label.specs.Good.InTable.{none as no_lengths}
 use Rattle.label.specs.declared.field.Why.TheVariants.{Cut}
 use Rattle.label.specs.declared.field.Field.{Field}
-use Rattle.label.specs.declared.field.Lookup.TheVariants.{At}
 use Rattle.label.proofs.Standing.{standing}
 
 module _ (s : List ℕ) (n : ℕ) (h : n ≤ length s) where
@@ -25,11 +24,11 @@ module _ (s : List ℕ) (n : ℕ) (h : n ≤ length s) where
   same_length at k = word-take 2 s n (at + 1) (omega arith)
 
   -- a field that ends within them stands as before
-  still : {at before : ℕ} {f : Field} → Stands s at before (At f) → f.start + f.length ≤ n → Stands (take n s) at before (At f)
-  still {at} {before} (Stands.field w k a e f g) m =
+  still : {at before : ℕ} {f : Field} → Stands s at before (Ok f) → f.start + f.length ≤ n → Stands (take n s) at before (Ok f)
+  still {at} {before} (Stands.field {row} w k a e f g) m =
       let t = same_tag at (omega arith) in
       let z = same_length at (omega arith) in
-      rw (← t, ← z) (Stands.field (rw size (omega arith)) (rw t k) (rw t a) (rw (t, z) e) (rw (t, z) f) (rw (z, size) m))
+      rw (← t, ← z) (Stands.field {row = row} (rw size (omega arith)) (rw t k) (rw t a) (rw z e) (rw z f) (rw (z, size) m))
 
   -- so the fields that lead to a place within them still do
   pub still_led : {at before : ℕ} {fs : List Field} → LedTo s at before fs → at ≤ n → LedTo (take n s) at before fs
@@ -37,7 +36,7 @@ module _ (s : List ℕ) (n : ℕ) (h : n ≤ length s) where
   still_led (next {at} {before} {fs} {f} r st) m = next (still_led r (let k = standing s at before st in omega arith)) (still st m)
 
   -- and a field that ends past them is cut
-  pub part_cut : {at before : ℕ} {f : Field} → Stands s at before (At f) → n < f.start + f.length → Stands (take n s) at before (refused_at Cut at)
+  pub part_cut : {at before : ℕ} {f : Field} → Stands s at before (Ok f) → n < f.start + f.length → Stands (take n s) at before (refused_at Cut at)
   part_cut {at} {before} {f} st m = go (dec_le (at + 3) n)
     where
       go : Dec (at + 3 ≤ n) → Stands (take n s) at before (refused_at Cut at)
@@ -46,7 +45,7 @@ module _ (s : List ℕ) (n : ℕ) (h : n ≤ length s) where
           let q = standing s at before st in
           let t = same_tag at (omega arith) ∙ sym q.tag in
           let z = same_length at w ∙ sym q.size in
-          value_cut (rw size w) (rw t q.known) (rw t q.above) (rw (t, z) q.enough) (rw (t, z) q.fits) (rw (z, size) (rw q.start at m))
+          value_cut {row = q.row} (rw size w) (rw t q.known) (rw t q.above) (rw z q.enough) (rw z q.fits) (rw (z, size) (rw q.start at m))
 
 -- the first bytes of fields end inside a field, or where some of the fields end
 pub data Falls (ps : List Plain) (n : ℕ) : Type 0 where

@@ -1,22 +1,19 @@
 -- The rows of the table by their numbers: a number comes back, with a place, exactly when its row says. Assumes nothing.
-use Rattle.std.proofs.Common.{◌≡◌, ℕ, ◌≤◌, Bool, true, false, List, [], length, sym, refl, ap, ◌∙◌, subst, arith, Bor}
+use Rattle.std.proofs.Common.{◌≡◌, ℕ, ◌≤◌, Bool, true, false, List, [], length, sym, refl, ap, ◌∙◌, subst, arith, Bor, Result, Ok, Err, is_some}
 use contract.Lifetimes.{Lfts}
 use Rattle.secrets.specs.declared.v3.seed.RapidSecrets.{RapidSecrets}
 use Rattle.rapidhash.specs.Hash.{hash_of}
-use Rattle.label.specs.Label.{refused_at, bad_at, header_of, walk_of, not_listed, with_tag, is_field, complete, read_of, first_listed, when_good, find_of, value_of, hashed_of, fingerprint_of}
+use Rattle.std.specs.Option.{ok_or}
+use Rattle.std.specs.Result.{result_and, result_ok}
+use Rattle.label.specs.Label.{refusal, refused_at, header_of, walk_of, not_listed, with_tag, complete, read_of, first_listed, find_of, value_of, hashed_of, fingerprint_of}
 use Rattle.label.specs.Numbers.{number_of, told_reading, told_lookup, told_printed}
 use Rattle.label.specs.Rows.{Stands, header_cut, no_such_tag, not_above, length_short, length_long, value_cut, field}
 use Rattle.label.specs.Rows.{Reads, overlong, unreadable, missing_first, missing_second, good, Faulty, Through}
 use Rattle.label.specs.Rows.{Row, row0, row5, row6, row7, row8, row9, row10, Exactly, NoneListed, Finds, bad_record, none_there, found}
 use Rattle.label.specs.declared.field.Why.{Why}
-use Rattle.label.specs.declared.field.Why.TheVariants.{Cut, NoSuchTag, NotAbove, BadLength, Missing}
+use Rattle.label.specs.declared.field.Why.TheVariants.{Cut, NoSuchTag, NotAbove, BadLength, Missing, NotListed}
 use Rattle.label.specs.declared.field.Refusal.{Refusal}
 use Rattle.label.specs.declared.field.Field.{Field}
-use Rattle.label.specs.declared.field.Lookup.{Lookup}
-use Rattle.label.specs.declared.field.Lookup.TheVariants.{Refused}
-use Rattle.label.specs.declared.reading.Reading.{Reading}
-use Rattle.label.specs.declared.reading.Reading.TheVariants.{Good, Refused as Bad}
-use Rattle.label.specs.declared.fingerprint.Printed.TheVariants.{Print, Refused as NoPrint}
 use Rattle.label.proofs.Lookups.{reading_apart}
 use Rattle.label.proofs.ReadingLaws.{lacks_first, as_second}
 use Rattle.label.proofs.Standing.{stands_read, read_stands}
@@ -27,35 +24,35 @@ use Rattle.label.proofs.reading.read.Reads as read
 -- a number is that of one refusal only
 same_why : (a b : Why) → number_of a ≡ number_of b → a ≡ b
 same_why a b e =
-    let k = reading_apart (bad_at a 0) (bad_at b 0) (rw e) in
+    let k = reading_apart (refused_at a 0) (refused_at b 0) (rw e) in
     let r : ◌≡◌ {A = Refusal} (record { why = a; place = 0 }) (record { why = b; place = 0 }) = cc in
     ap (λ (q : Refusal). q.why) r
 
 -- and 0 is that of none
 never_zero : (why : Why) → number_of why ≡ 0 → ⊥
-never_zero why e = let k = reading_apart (bad_at why 0) Good (rw e) in let z : ◌≡◌ {A = ℕ} 0 1 = cc in omega arith
+never_zero why e = let k = reading_apart (refused_at why 0) (Ok tt) (rw e) in let z : ◌≡◌ {A = ℕ} 0 1 = cc in omega arith
 
 -- a reading of number 0 is good
-pub good_by_zero : (r : Reading) → (told_reading r).number ≡ 0 → r ≡ Good
-good_by_zero Good e = refl
-good_by_zero (Bad r) e = absurd (never_zero r.why e)
+pub good_by_zero : (r : Result Unit Refusal) → (told_reading r).number ≡ 0 → r ≡ Ok tt
+good_by_zero (Ok tt) e = refl
+good_by_zero (Err r) e = absurd (never_zero r.why e)
 
 module _ (s : List ℕ) where
   -- a refusal at a place, as reading gives it
-  faulty_read : {why : Why} {at : ℕ} → Faulty s why at → read_of s ≡ bad_at why at
-  faulty_read {why} {at} f = (exactly s (bad_at why at)).0 (unreadable f.short f.led f.more f.stands)
+  faulty_read : {why : Why} {at : ℕ} → Faulty s why at → read_of s ≡ refused_at why at
+  faulty_read {why} {at} f = (exactly s (refused_at why at)).0 (unreadable f.short f.led f.more f.stands)
 
   -- and where a required tag is missing
-  lacking_read : (fs : List Field) → Through s fs → complete fs ≡ false → read_of s ≡ bad_at Missing (length s)
-  lacking_read fs t e = (exactly s (bad_at Missing (length s))).0 (go (is_field (with_tag 1 fs)) refl)
+  lacking_read : (fs : List Field) → Through s fs → complete fs ≡ false → read_of s ≡ refused_at Missing (length s)
+  lacking_read fs t e = (exactly s (refused_at Missing (length s))).0 (go (is_some (with_tag 1 fs)) refl)
     where
-      go : (b : Bool) → is_field (with_tag 1 fs) ≡ b → Reads s (bad_at Missing (length s))
+      go : (b : Bool) → is_some (with_tag 1 fs) ≡ b → Reads s (refused_at Missing (length s))
       go false o = missing_first t.short t.led o
       go true o = missing_second t.short t.led (sym (as_second fs o refl) ∙ e)
 
   -- what a row says comes back
   row_told : {number place : ℕ} → Row s number place → ((told_reading (read_of s)).number ≡ number) × ((told_reading (read_of s)).place ≡ place)
-  row_told (row0 fs t o p) = let e = (exactly s Good).0 (good t.short t.led o p) in (rw e, rw e)
+  row_told (row0 fs t o p) = let e = (exactly s (Ok tt)).0 (good t.short t.led o p) in (rw e, rw e)
   row_told (row5 h) = let e = (exactly s _).0 (overlong h) in (rw e, rw e)
   row_told (row6 f) = let e = faulty_read f in (rw e, rw e)
   row_told (row7 f) = let e = faulty_read f in (rw e, rw e)
@@ -64,14 +61,14 @@ module _ (s : List ℕ) where
   row_told (row10 fs t n) = let e = lacking_read fs t n in (rw e, rw e)
 
   -- and what comes back is in a row
-  in_row : {r : Reading} → Reads s r → Row s (told_reading r).number (told_reading r).place
+  in_row : {r : Result Unit Refusal} → Reads s r → Row s (told_reading r).number (told_reading r).place
   in_row (overlong h) = row5 h
   in_row (unreadable {at} {before} {fs} h l m st) = go st
     where
       fault : {why : Why} → Stands s at before (refused_at why at) → Faulty s why at
       fault k = record { before = before; fields = fs; short = h; led = l; more = m; stands = k }
 
-      go : {r : Refusal} → Stands s at before (Refused r) → Row s (number_of r.why) r.place
+      go : {r : Refusal} → Stands s at before (Err r) → Row s (number_of r.why) r.place
       go (header_cut a) = row6 (fault (header_cut a))
       go (no_such_tag a b) = row7 (fault (no_such_tag a b))
       go (not_above a b c) = row8 (fault (not_above a b c))
@@ -79,9 +76,9 @@ module _ (s : List ℕ) where
       go (length_long a b c d e) = row9 (fault (length_long a b c d e))
       go (value_cut a b c d e f) = row6 (fault (value_cut a b c d e f))
   in_row (missing_first {before} {fs} h l e) = row10 fs (record { before = before; short = h; led = l }) (lacks_first fs e)
-  in_row (missing_second {before} {fs} h l e) = row10 fs (record { before = before; short = h; led = l }) (go (is_field (with_tag 1 fs)) refl)
+  in_row (missing_second {before} {fs} h l e) = row10 fs (record { before = before; short = h; led = l }) (go (is_some (with_tag 1 fs)) refl)
     where
-      go : (b : Bool) → is_field (with_tag 1 fs) ≡ b → complete fs ≡ false
+      go : (b : Bool) → is_some (with_tag 1 fs) ≡ b → complete fs ≡ false
       go false o = lacks_first fs o
       go true o = as_second fs o e
   in_row (good {before} {fs} h l o t) = row0 fs (record { before = before; short = h; led = l }) o t
@@ -138,36 +135,36 @@ module _ (s : List ℕ) where
   up_to_ten (row10 fs t n) = omega arith
 
 -- the same of the code: of any answer that the contract of `read` allows
-pub read_by_number : (κ : Lfts 1) (d : Bor (List ℕ)) (r : Reading) (x : _) → read.Post κ (d, tt) r x
+pub read_by_number : (κ : Lfts 1) (d : Bor (List ℕ)) (r : Result Unit Refusal) (x : _) → read.Post κ (d, tt) r x
     → (number : ℕ) → Exactly ((told_reading r).number ≡ number) (Row d.now number (told_reading r).place)
-read_by_number κ d r x p number = rw (reading_apart r (read_of d.now) p) (by_number d.now number)
+read_by_number κ d r x p number = rw p (by_number d.now number)
 
 -- a record that is refused is refused alike by reading, finding and the fingerprint: one number and place, tag 0, fingerprint 0 and no bytes
 pub refused_alike : (x : RapidSecrets) (s tags : List ℕ) → ((told_reading (read_of s)).number ≡ 0 → ⊥)
     → (told_lookup (find_of s tags) ≡ told_reading (read_of s)) × (told_printed (fingerprint_of x s) ≡ told_reading (read_of s))
-    × (value_of s (find_of s tags) ≡ [])
-unfolding find_of fingerprint_of when_good value_of
+    × (value_of s (result_ok (find_of s tags)) ≡ [])
+unfolding find_of fingerprint_of value_of
 refused_alike x s tags = go (read_of s)
   where
-    go : (r : Reading) → ((told_reading r).number ≡ 0 → ⊥)
-        → (told_lookup (when_good r (first_listed (walk_of s).fields tags) Refused) ≡ told_reading r)
-        × (told_printed (when_good r (Print (hash_of 7 true false x (hashed_of s))) NoPrint) ≡ told_reading r)
-        × (value_of s (when_good r (first_listed (walk_of s).fields tags) Refused) ≡ [])
-    go Good k = absurd (k refl)
-    go (Bad r) k = (refl, refl, refl)
+    go : (r : Result Unit Refusal) → ((told_reading r).number ≡ 0 → ⊥)
+        → (told_lookup (result_and r (ok_or (first_listed (walk_of s).fields tags) (refusal NotListed 0))) ≡ told_reading r)
+        × (told_printed (result_and r (Ok (hash_of 7 true false x (hashed_of s)))) ≡ told_reading r)
+        × (value_of s (result_ok (result_and r (ok_or (first_listed (walk_of s).fields tags) (refusal NotListed 0)))) ≡ [])
+    go (Ok u) k = absurd (k refl)
+    go (Err r) k = (refl, refl, refl)
 
 module _ (s tags : List ℕ) where
   -- what finding answers where a good record has no listed tag
   none_listed : (told_reading (read_of s)).number ≡ 0 → NoneListed (walk_of s).fields tags → find_of s tags ≡ not_listed
-  none_listed e n = (exactly_found s tags not_listed).0 (none_there ((exactly s Good).1 (good_by_zero (read_of s) e)) n)
+  none_listed e n = (exactly_found s tags not_listed).0 (none_there ((exactly s (Ok tt)).1 (good_by_zero (read_of s) e)) n)
 
   -- finding gives 11 exactly when the record is good and no listed tag is there
   pub eleven_exactly : Exactly ((told_lookup (find_of s tags)).number ≡ 11) (((told_reading (read_of s)).number ≡ 0) × NoneListed (walk_of s).fields tags)
   eleven_exactly = (λ e. go ((exactly_found s tags (find_of s tags)).1 refl) e, λ k. rw (none_listed k.0 k.1))
     where
-      go : {l : Lookup} → Finds s tags l → (told_lookup l).number ≡ 11 → ((told_reading (read_of s)).number ≡ 0) × NoneListed (walk_of s).fields tags
+      go : {l : Result Field Refusal} → Finds s tags l → (told_lookup l).number ≡ 11 → ((told_reading (read_of s)).number ≡ 0) × NoneListed (walk_of s).fields tags
       go (bad_record h) e = let n = up_to_ten s (in_row s h) in absurd (omega arith)
-      go (none_there h n) e = (rw ((exactly s Good).0 h), n)
+      go (none_there h n) e = (rw ((exactly s (Ok tt)).0 h), n)
       go (found earlier t later h d n w) e = absurd (omega arith)
 
   -- and with it tag 0 and place 0
@@ -182,7 +179,7 @@ module _ (s : List ℕ) (at before : ℕ) where
       is : {w : Why} → Stands s at before (refused_at w at) → number_of w ≡ number_of why → Stands s at before (refused_at why at)
       is {w} st e = subst (λ (v : Why). Stands s at before (refused_at v at)) (same_why w why e) st
 
-      go : {l : Lookup} → Stands s at before l → (told_lookup l).number ≡ number_of why → Stands s at before (refused_at why at)
+      go : {l : Result Field Refusal} → Stands s at before l → (told_lookup l).number ≡ number_of why → Stands s at before (refused_at why at)
       go (header_cut a) e = is (header_cut a) e
       go (no_such_tag a b) e = is (no_such_tag a b) e
       go (not_above a b c) e = is (not_above a b c) e

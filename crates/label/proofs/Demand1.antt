@@ -1,17 +1,16 @@
 -- Demand 1 for label records: no contract leaves a choice. Two answers that one contract allows for the same input are equal. Assumes nothing.
 use Rattle.std.proofs.Common.{◌≡◌, ℕ, List, Bor}
 use Rattle.secrets.proofs.Demand1.{OneAnswer, one}
-use Rattle.label.proofs.Lookups.{lookup_apart, reading_apart, printed_apart}
 use Rattle.label.proofs.field.header.Reads as header
 use Rattle.label.proofs.field.lengths_of.Reads as lengths-of
-use Rattle.label.proofs.field.Why.number.Reads as number
+use Rattle.label.proofs.field.U64FromWhy.from.Reads as number
 use Rattle.label.proofs.reading.read.Reads as read
 use Rattle.label.proofs.finding.find.Reads as find
 use Rattle.label.proofs.finding.part.Reads as part
 use Rattle.label.proofs.fingerprint.fingerprint.Reads as fingerprint
 
 pub header_one : OneAnswer header.Post
-header_one κ a r₁ r₂ s₁ s₂ p q = lookup_apart r₁ r₂ (one p q)
+header_one κ a r₁ r₂ s₁ s₂ p q = one p q
 
 pub lengths_of_one : OneAnswer lengths-of.Post
 lengths_of_one κ a r₁ r₂ s₁ s₂ p q = one p q
@@ -20,13 +19,13 @@ pub number_one : OneAnswer number.Post
 number_one κ a r₁ r₂ s₁ s₂ p q = one p q
 
 pub read_one : OneAnswer read.Post
-read_one κ a r₁ r₂ s₁ s₂ p q = reading_apart r₁ r₂ (one p q)
+read_one κ a r₁ r₂ s₁ s₂ p q = one p q
 
 pub find_one : OneAnswer find.Post
-find_one κ a r₁ r₂ s₁ s₂ p q = lookup_apart r₁ r₂ (one p q)
+find_one κ a r₁ r₂ s₁ s₂ p q = one p q
 
 pub fingerprint_one : OneAnswer fingerprint.Post
-fingerprint_one κ a r₁ r₂ s₁ s₂ p q = printed_apart r₁ r₂ (one p q)
+fingerprint_one κ a r₁ r₂ s₁ s₂ p q = one p q
 
 -- what is seen of the answers that a contract allows is one, also where two come with two exits
 abbrev Seen : {K : Type 0} {A S : K → Type 0} {X : Type 0} → (Bor (List ℕ) → X) → ((κ : K) → A κ → Bor (List ℕ) → S κ → Type 0) → Type 0

@@ -1,13 +1,12 @@
 -- What finding finds lies in the record. Assumes nothing.
-use Rattle.std.proofs.Common.{◌≡◌, ℕ, ◌+◌, ◌≤◌, List, [], ◌∷◌, length, refl, arith}
+use Rattle.std.proofs.Common.{ℕ, ◌+◌, ◌≤◌, List, [], ◌∷◌, length, refl, arith, Option, Some, None, is_some, Result, Ok, Err}
 use Rattle.rapidhash.proofs.Tests.{either}
-use Rattle.label.specs.Numbers.{told_lookup}
-use Rattle.label.specs.Label.{walk_of, with_tag, is_field, read_of, first_listed, when_good, find_of, start_of, length_of}
-use Rattle.label.specs.declared.field.Lookup.{Lookup}
-use Rattle.label.specs.declared.field.Lookup.TheVariants.{Refused}
-use Rattle.label.specs.declared.reading.Reading.{Reading}
-use Rattle.label.specs.declared.reading.Reading.TheVariants.{Good, Refused as Bad}
-use Rattle.label.proofs.Lookups.{lookup_apart}
+use Rattle.std.specs.Option.{ok_or}
+use Rattle.std.specs.Result.{result_and, result_ok}
+use Rattle.label.specs.Label.{refusal, walk_of, with_tag, read_of, first_listed, find_of, start_of, length_of}
+use Rattle.label.specs.declared.field.Field.{Field}
+use Rattle.label.specs.declared.field.Refusal.{Refusal}
+use Rattle.label.specs.declared.field.Why.TheVariants.{NotListed}
 use Rattle.label.proofs.Within.{found_within}
 
 -- what is found lies in the record
@@ -15,12 +14,14 @@ listed_within : (s tags : List ℕ) → start_of (first_listed (walk_of s).field
 unfolding first_listed
 listed_within s [] = omega arith
 listed_within s (t ∷ ts) =
-    either (λ (l : Lookup). start_of l + length_of l ≤ length s) (is_field (with_tag t (walk_of s).fields)) (found_within s t refl) (listed_within s ts)
+    either (λ (l : Option Field). start_of l + length_of l ≤ length s) (is_some (with_tag t (walk_of s).fields)) (found_within s t refl) (listed_within s ts)
 
-pub find_within : (s tags : List ℕ) (l : Lookup) → told_lookup l ≡ told_lookup (find_of s tags) → start_of l + length_of l ≤ length s
-unfolding find_of when_good
-find_within s tags l e = rw (lookup_apart l (find_of s tags) e) (go (read_of s))
+pub find_within : (s tags : List ℕ) → start_of (result_ok (find_of s tags)) + length_of (result_ok (find_of s tags)) ≤ length s
+unfolding find_of
+find_within s tags = go (read_of s) (first_listed (walk_of s).fields tags) (listed_within s tags)
   where
-    go : (r : Reading) → start_of (when_good r (first_listed (walk_of s).fields tags) Refused) + length_of (when_good r (first_listed (walk_of s).fields tags) Refused) ≤ length s
-    go Good = listed_within s tags
-    go (Bad r) = omega arith
+    go : (r : Result Unit Refusal) (l : Option Field) → start_of l + length_of l ≤ length s
+        → start_of (result_ok (result_and r (ok_or l (refusal NotListed 0)))) + length_of (result_ok (result_and r (ok_or l (refusal NotListed 0)))) ≤ length s
+    go (Ok u) (Some f) h = h
+    go (Ok u) None h = omega arith
+    go (Err r) l h = omega arith

@@ -1,36 +1,34 @@
 -- Reading is good exactly for good records, and gives just their fields. Assumes nothing.
-use Rattle.std.proofs.Common.{◌≡◌, ℕ, ◌+◌, Bool, true, false, eqb, List, [], ◌∷◌, ◌++◌, map, length, get_or, drop, refl, ap, ◌∙◌, append_assoc, append-nil, arith, length-append, eq-eqb, eqb-true}
+use Rattle.std.proofs.Common.{◌≡◌, ℕ, ◌+◌, Bool, true, false, eqb, List, [], ◌∷◌, ◌++◌, map, length, get_or, drop, refl, ap, ◌∙◌, append_assoc, append-nil, arith, length-append, eq-eqb, eqb-true, Some, Ok, is_some}
 use mathlib.Core.List.{map-append}
 use Rattle.std.proofs.Math.Seq.{drop-length}
 use Rattle.secrets.specs.Choice.{pick}
 use Rattle.rapidhash.specs.Words.{word}
-use Rattle.label.specs.Label.{table, walk_of, with_tag, is_field, read_of, value_of}
+use Rattle.label.specs.Label.{table, walk_of, with_tag, read_of, value_of}
 use Rattle.label.specs.Rows.{Stands, LedTo, start, next, Reads, good}
 use Rattle.label.specs.Good.{Plain, written, laid_out, Ascending, none, above, InTable, none as no_fields, sized, Present, here, later, GoodRecord, plain}
 use Rattle.label.specs.declared.field.Field.{Field}
-use Rattle.label.specs.declared.field.Lookup.TheVariants.{At}
-use Rattle.label.specs.declared.reading.Reading.TheVariants.{Good}
 use Rattle.label.proofs.Standing.{standing}
 use Rattle.label.proofs.Refusals.{exactly, all_walked}
 use Rattle.label.proofs.Written.{Bytes, value-length, stands_written, written_within, written_tag, written-length, written_value, written_rest}
 
 -- a field is found exactly if it is there
 module _ (s : List ℕ) (t : ℕ) where
-  pub present_found : (fs : List Field) → Present t (map (plain s) fs) → is_field (with_tag t fs) ≡ true
+  pub present_found : (fs : List Field) → Present t (map (plain s) fs) → is_some (with_tag t fs) ≡ true
   unfolding with_tag
   present_found [] h = elim h [ ]
   present_found (f ∷ fs) (here e) = rw (eq-eqb f.tag t e)
   present_found (f ∷ fs) (later h) = go (eqb f.tag t) (present_found fs h)
     where
-      go : (b : Bool) → is_field (with_tag t fs) ≡ true → is_field (pick b (At f) (with_tag t fs)) ≡ true
+      go : (b : Bool) → is_some (with_tag t fs) ≡ true → is_some (pick b (Some f) (with_tag t fs)) ≡ true
       go true k = refl
       go false k = k
 
-  pub found_present : (fs : List Field) → is_field (with_tag t fs) ≡ true → Present t (map (plain s) fs)
+  pub found_present : (fs : List Field) → is_some (with_tag t fs) ≡ true → Present t (map (plain s) fs)
   unfolding with_tag
   found_present (f ∷ fs) k = go (eqb f.tag t) refl k (λ h. found_present fs h)
     where
-      go : (b : Bool) → eqb f.tag t ≡ b → is_field (pick b (At f) (with_tag t fs)) ≡ true → (is_field (with_tag t fs) ≡ true → Present t (map (plain s) fs))
+      go : (b : Bool) → eqb f.tag t ≡ b → is_some (pick b (Some f) (with_tag t fs)) ≡ true → (is_some (with_tag t fs) ≡ true → Present t (map (plain s) fs))
           → Present t (map (plain s) (f ∷ fs))
       go true e k r = here (eqb-true f.tag t e)
       go false e k r = later (r k)
@@ -45,7 +43,7 @@ pub record Described (s : List ℕ) (at before : ℕ) (ps : List Plain) : Type 0
 -- a field that stands at a place and is p, with ps described from its end on
 pub record Stood (s : List ℕ) (at before : ℕ) (p : Plain) (ps : List Plain) : Type 0 where
   pub field : Field
-  pub stands : Stands s at before (At field)
+  pub stands : Stands s at before (Ok field)
   pub is : plain s field ≡ p
   pub end : field.start + field.length ≡ at + length (written p)
   pub onward : Described s (field.start + field.length) field.tag ps
@@ -60,7 +58,7 @@ pub record Passed (s : List ℕ) (at : ℕ) (ps later : List Plain) : Type 0 whe
 
 module _ (s : List ℕ) where
   -- a field that stands before what is described is described with it
-  one_before : Bytes s → {at before : ℕ} {f : Field} {ps : List Plain} → Stands s at before (At f) → Described s (f.start + f.length) f.tag ps
+  one_before : Bytes s → {at before : ℕ} {f : Field} {ps : List Plain} → Stands s at before (Ok f) → Described s (f.start + f.length) f.tag ps
       → Described s at before (plain s f ∷ ps)
   unfolding laid_out
   one_before bytes {at} {before} {f} {ps} st d =
@@ -85,16 +83,16 @@ module _ (s : List ℕ) where
   first_stands {at} {before} p ps d = go d.ascends d.lengths
     where
       go : Ascending before (p ∷ ps) → InTable (p ∷ ps) → Stood s at before p ps
-      go (above a later-tags) (sized known-tag enough fits later-lengths) =
+      go (above a later-tags) (sized {row = row} known-tag enough fits later-lengths) =
           let e : drop at s ≡ written p ++ laid_out ps = d.joins in
           let tag = written_tag s at p (laid_out ps) e in
           let n = written-length s at p (laid_out ps) e in
           let w = written_within s at p (laid_out ps) e in
-          let known : (table (get_or s at 0)).known ≡ true = rw tag known-tag in
+          let known : table (get_or s at 0) ≡ Some row = rw tag known-tag in
           let f : Field = record { tag = get_or s at 0; place = at; start = at + 3; length = word 2 s (at + 1) } in
           record {
             field = f;
-            stands = Stands.field (omega arith) known (rw tag a) (rw (tag, n) enough) (rw (tag, n) fits) (rw n w);
+            stands = Stands.field (omega arith) known (rw tag a) (rw n enough) (rw n fits) (rw n w);
             is = rw (tag, n, written_value s at p (laid_out ps) e);
             end = rw n (omega arith);
             onward = record { joins = rw n (written_rest s at p (laid_out ps) e); ascends = rw tag later-tags; lengths = later-lengths };
@@ -116,11 +114,11 @@ module _ (s : List ℕ) where
 
   module _ (bytes : Bytes s) where
     -- a record that is read as good is a good record of the fields that were read
-    pub read_is_good : read_of s ≡ Good → GoodRecord s (map (plain s) (walk_of s).fields)
+    pub read_is_good : read_of s ≡ Ok tt → GoodRecord s (map (plain s) (walk_of s).fields)
     unfolding laid_out
-    read_is_good e = go ((exactly s Good).1 e)
+    read_is_good e = go ((exactly s (Ok tt)).1 e)
       where
-        go : Reads s Good → GoodRecord s (map (plain s) (walk_of s).fields)
+        go : Reads s (Ok tt) → GoodRecord s (map (plain s) (walk_of s).fields)
         go (good {before} {fs} short r one two) =
             let none_left : Described s (length s) before [] = record { joins = drop-length s; ascends = none; lengths = no_fields } in
             let d = described bytes r none_left in
@@ -141,11 +139,11 @@ module _ (s : List ℕ) where
       rw n at (pass ps more start (record { joins = g.joins; ascends = g.ascends; lengths = g.lengths }))
 
   -- and a good record is read as good, and gives just its fields
-  pub good_is_read : (ps : List Plain) → GoodRecord s ps → (read_of s ≡ Good) × (map (plain s) (walk_of s).fields ≡ ps)
+  pub good_is_read : (ps : List Plain) → GoodRecord s ps → (read_of s ≡ Ok tt) × (map (plain s) (walk_of s).fields ≡ ps)
   good_is_read ps g =
       let size : length s ≡ length (laid_out ps) = ap length g.joins in
       let all : Passed s (length s) ps [] = rw size (pass_good ps [] (rw append-nil g)) in
       let are = all.are in
       let one = present_found s 1 all.fields (rw are g.first) in
       let two = present_found s 2 all.fields (rw are g.second) in
-      ((exactly s Good).0 (good g.short all.led one two), rw (all_walked s all.led) are)
+      ((exactly s (Ok tt)).0 (good g.short all.led one two), rw (all_walked s all.led) are)

@@ -1,14 +1,13 @@
 -- The fingerprint is of the values of tags 1 to 4 in the record's order, as the record is written. Since tags ascend, each lookup adds its
 -- value at the end of those with smaller tags. Assumes nothing.
-use Rattle.std.proofs.Common.{◌≡◌, ℕ, suc, ◌≤◌, true, false, List, [], ◌∷◌, ◌++◌, map, refl, append_assoc, append-nil, arith, eq-eqb, ne_eqb, le-leb}
+use Rattle.std.proofs.Common.{◌≡◌, ℕ, suc, ◌≤◌, true, false, List, [], ◌∷◌, ◌++◌, map, refl, append_assoc, append-nil, arith, eq-eqb, ne_eqb, le-leb, Ok}
 use Rattle.std.proofs.Math.Decide.{dec_le, ℕ_discrete}
 use Rattle.std.proofs.lemmas.Bool.{lt-leb}
 use Rattle.rapidhash.specs.Hash.{hash_of}
 use Rattle.secrets.specs.declared.v3.seed.RapidSecrets.{RapidSecrets}
-use Rattle.label.specs.Label.{walk_of, with_tag, value_of, hashed_of, when_good, fingerprint_of}
+use Rattle.label.specs.Label.{walk_of, with_tag, value_of, hashed_of, fingerprint_of}
 use Rattle.label.specs.Good.{Plain, Ascending, none, above, GoodRecord, plain, values_to}
 use Rattle.label.specs.declared.field.Field.{Field}
-use Rattle.label.specs.declared.fingerprint.Printed.TheVariants.{Print}
 use Rattle.label.proofs.GoodExactly.{good_is_read}
 
 -- fields after a tag have no values up to it
@@ -47,6 +46,6 @@ hashed_in_order s ps g =
 
 -- and its fingerprint is their hash
 pub print_in_order : (x : RapidSecrets) (s : List ℕ) (ps : List Plain) → GoodRecord s ps
-    → fingerprint_of x s ≡ Print (hash_of 7 true false x (values_to 4 ps))
-unfolding fingerprint_of when_good
+    → fingerprint_of x s ≡ Ok (hash_of 7 true false x (values_to 4 ps))
+unfolding fingerprint_of
 print_in_order x s ps g = rw ((good_is_read s ps g).0, hashed_in_order s ps g)

@@ -1,5 +1,5 @@
 -- A record's hashed bytes in any parts through a stream: finish answers the record's fingerprint. Assumes nothing.
-use Rattle.std.proofs.Common.{◌≡◌, ℕ, ◌+◌, ◌≤◌, true, false, List, [], ◌∷◌, ◌++◌, length, refl, ap, ◌∙◌, append_assoc, append-nil, arith, length-append, Bor, le-leb}
+use Rattle.std.proofs.Common.{◌≡◌, ℕ, ◌+◌, ◌≤◌, true, false, List, [], ◌∷◌, ◌++◌, length, ap, ◌∙◌, append_assoc, append-nil, arith, length-append, Bor, le-leb, Result}
 use mathlib.Core.List.{flatten}
 use contract.Lifetimes.{Lfts}
 use Rattle.secrets.specs.declared.v3.seed.RapidSecrets.{RapidSecrets}
@@ -13,10 +13,10 @@ use Rattle.stream.proofs.Demand3.{as_a_list, reached_sound}
 use Rattle.stream.proofs.Runs.{Runs, AsAList}
 use Rattle.stream.proofs.OfTheCode.{calls, code_as_a_list}
 use Rattle.stream.proofs.rapid_stream_hasher.RapidStreamHasher.new.Reads as new
-use Rattle.label.specs.Label.{read_of, hashed_of, when_good, fingerprint_of}
+use Rattle.label.specs.Label.{read_of, hashed_of, fingerprint_of}
 use Rattle.label.specs.Numbers.{told_reading, told_printed}
 use Rattle.label.specs.Printing.{printing, in_parts, all_taken}
-use Rattle.label.specs.declared.fingerprint.Printed.{Printed}
+use Rattle.label.specs.declared.field.Refusal.{Refusal}
 use Rattle.label.proofs.ByNumber.{good_by_zero}
 use Rattle.label.proofs.FingerLaws.{hashed_short, good_short}
 use Rattle.label.proofs.fingerprint.fingerprint.Reads as fingerprint
@@ -41,10 +41,10 @@ module _ (x : RapidSecrets) (s : List ℕ) (parts : List (List ℕ)) (joins : fl
   -- a run that goes as on a plain list finishes in the record's fingerprint
   pub as_listed : {l : Ran RapidStreamHasher} → AsAList 7 (printing x) (in_parts parts) l → (told_reading (read_of s)).number ≡ 0
       → l.replies ≡ all_taken parts (record { number = 0; hash = (told_printed (fingerprint_of x s)).fingerprint; count = chunks 112 (length (hashed_of s)) })
-  unfolding fingerprint_of when_good
+  unfolding fingerprint_of
   as_listed a z =
       let e = good_by_zero (read_of s) z in
-      let m = hashed_short s (good_short s refl e) in
+      let m = hashed_short s (good_short s e) in
       ap (λ (r : Ran RapidStreamHasher). r.replies) a.alike
       ∙ list_in_parts (printing x) [] parts (rw joins m)
       ∙ rw (joins, e)
@@ -63,7 +63,7 @@ module _ (x : RapidSecrets) (s : List ℕ) (parts : List (List ℕ)) (joins : fl
       z
 
   -- and so of the code that makes it at once: whatever fingerprint the contract of `fingerprint` allows
-  pub printed_in_parts : (κ : Lfts 1) (d : Bor (List ℕ)) (r : Printed) (e : _) → d.now ≡ s → fingerprint.Post κ (d, (x, tt)) r e
+  pub printed_in_parts : (κ : Lfts 1) (d : Bor (List ℕ)) (r : Result ℕ Refusal) (e : _) → d.now ≡ s → fingerprint.Post κ (d, (x, tt)) r e
       → (told_reading (read_of s)).number ≡ 0
       → (on_states 7 (opening_of (printing x)) (in_parts parts)).replies
       ≡ all_taken parts (record { number = 0; hash = (told_printed r).fingerprint; count = chunks 112 (length (hashed_of s)) })

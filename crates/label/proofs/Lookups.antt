@@ -1,17 +1,12 @@
 -- The number and the values tell answers apart: each answer can be told back from them. Assumes nothing.
-use Rattle.std.proofs.Common.{◌≡◌, ℕ, eqb, refl}
+use Rattle.std.proofs.Common.{◌≡◌, ℕ, eqb, refl, Result, Ok, Err}
 use Rattle.secrets.specs.Choice.{pick}
 use Rattle.secrets.proofs.Demand1.{told_back}
 use Rattle.label.specs.Numbers.{Told, told_refusal, told_lookup, told_reading, told_printed}
 use Rattle.label.specs.declared.field.Why.{Why}
 use Rattle.label.specs.declared.field.Why.TheVariants.{TooLong, Cut, NoSuchTag, NotAbove, BadLength, Missing, NotListed}
 use Rattle.label.specs.declared.field.Refusal.{Refusal}
-use Rattle.label.specs.declared.field.Lookup.{Lookup}
-use Rattle.label.specs.declared.field.Lookup.TheVariants.{At, Refused}
-use Rattle.label.specs.declared.reading.Reading.{Reading}
-use Rattle.label.specs.declared.reading.Reading.TheVariants.{Good, Refused as Bad}
-use Rattle.label.specs.declared.fingerprint.Printed.{Printed}
-use Rattle.label.specs.declared.fingerprint.Printed.TheVariants.{Print, Refused as NoPrint}
+use Rattle.label.specs.declared.field.Field.{Field}
 
 -- the refusal of a number
 why_of : ℕ → Why
@@ -36,30 +31,30 @@ refusal_back good refused Missing p = refl
 refusal_back good refused NotListed p = refl
 
 -- the field that is told
-field_of : Told → Lookup
-field_of t = At (record { tag = t.tag; place = t.place; start = t.start; length = t.length })
+field_of : Told → Result Field Refusal
+field_of t = Ok (record { tag = t.tag; place = t.place; start = t.start; length = t.length })
 
-lookup_back : (x : Lookup) → unless_refused field_of Refused (told_lookup x) ≡ x
+lookup_back : (x : Result Field Refusal) → unless_refused field_of Err (told_lookup x) ≡ x
 unfolding unless_refused field_of
-lookup_back (At f) = refl
-lookup_back (Refused r) = refusal_back field_of Refused r.why r.place
+lookup_back (Ok f) = refl
+lookup_back (Err r) = refusal_back field_of Err r.why r.place
 
-pub lookup_apart : (x y : Lookup) → told_lookup x ≡ told_lookup y → x ≡ y
-lookup_apart = told_back told_lookup (unless_refused field_of Refused) lookup_back
+pub lookup_apart : (x y : Result Field Refusal) → told_lookup x ≡ told_lookup y → x ≡ y
+lookup_apart = told_back told_lookup (unless_refused field_of Err) lookup_back
 
 -- the same of a reading and of a fingerprint
-reading_back : (x : Reading) → unless_refused (λ t. Good) Bad (told_reading x) ≡ x
+reading_back : (x : Result Unit Refusal) → unless_refused (λ t. (Ok tt)) Err (told_reading x) ≡ x
 unfolding unless_refused
-reading_back Good = refl
-reading_back (Bad r) = refusal_back (λ t. Good) Bad r.why r.place
+reading_back (Ok tt) = refl
+reading_back (Err r) = refusal_back (λ t. (Ok tt)) Err r.why r.place
 
-pub reading_apart : (x y : Reading) → told_reading x ≡ told_reading y → x ≡ y
-reading_apart = told_back told_reading (unless_refused (λ t. Good) Bad) reading_back
+pub reading_apart : (x y : Result Unit Refusal) → told_reading x ≡ told_reading y → x ≡ y
+reading_apart = told_back told_reading (unless_refused (λ t. (Ok tt)) Err) reading_back
 
-printed_back : (x : Printed) → unless_refused (λ t. Print t.fingerprint) NoPrint (told_printed x) ≡ x
+printed_back : (x : Result ℕ Refusal) → unless_refused (λ t. Ok t.fingerprint) Err (told_printed x) ≡ x
 unfolding unless_refused
-printed_back (Print v) = refl
-printed_back (NoPrint r) = refusal_back (λ t. Print t.fingerprint) NoPrint r.why r.place
+printed_back (Ok v) = refl
+printed_back (Err r) = refusal_back (λ t. Ok t.fingerprint) Err r.why r.place
 
-pub printed_apart : (x y : Printed) → told_printed x ≡ told_printed y → x ≡ y
-printed_apart = told_back told_printed (unless_refused (λ t. Print t.fingerprint) NoPrint) printed_back
+pub printed_apart : (x y : Result ℕ Refusal) → told_printed x ≡ told_printed y → x ≡ y
+printed_apart = told_back told_printed (unless_refused (λ t. Ok t.fingerprint) Err) printed_back

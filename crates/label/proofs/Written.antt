@@ -1,11 +1,10 @@
 -- A field in a record, as it stands and as it is written. Assumes nothing.
-use Rattle.std.proofs.Common.{◌≡◌, ℕ, ◌+◌, ◌-◌, ◌*◌, ◌/◌, ◌%◌, ◌<◌, ◌≤◌, List, ◌∷◌, ◌++◌, length, get_or, take, drop, sym, ap, ◌∙◌, add-one, arith, length-append, length-drop, take-append-drop, length-take, get_or-drop, drop-cons, drop-drop}
+use Rattle.std.proofs.Common.{◌≡◌, ℕ, ◌+◌, ◌-◌, ◌*◌, ◌/◌, ◌%◌, ◌<◌, ◌≤◌, List, ◌∷◌, ◌++◌, length, get_or, take, drop, sym, ap, ◌∙◌, add-one, arith, length-append, length-drop, take-append-drop, length-take, get_or-drop, drop-cons, drop-drop, Some}
 use Rattle.std.proofs.Math.Seq.{take-append_seam, drop-append_seam}
 use Rattle.rapidhash.specs.Words.{word}
 use Rattle.label.specs.Label.{value_of}
 use Rattle.label.specs.Good.{Plain, written, plain}
 use Rattle.label.specs.declared.field.Field.{Field}
-use Rattle.label.specs.declared.field.Lookup.TheVariants.{At}
 use Rattle.label.proofs.Standing.{Standing}
 
 -- every number of a list is a byte
@@ -25,7 +24,7 @@ two_bytes s i =
 
 -- a field that stands at a place is written there, and the rest follows
 module _ (s : List ℕ) (at before : ℕ) {f : Field} (bytes : Bytes s) (st : Standing s at before f) where
-  pub value-length : length (value_of s (At f)) ≡ f.length
+  pub value-length : length (value_of s (Some f)) ≡ f.length
   unfolding value_of
   value-length = let w = st.within in simp (length-take, length-drop) (omega arith)
 

@@ -1,9 +1,9 @@
 -- A good record in plain words (docs/RULES.md, section 7.2): what it is, not how it is read. Assumes nothing.
-use Rattle.std.specs.Prelude.{ℕ, ◌/◌, ◌%◌, ◌≤◌, ◌<◌, ◌≡◌, true, List, [], ◌∷◌, ◌++◌, leb, length}
+use Rattle.std.specs.Prelude.{ℕ, ◌/◌, ◌%◌, ◌≤◌, ◌<◌, ◌≡◌, List, [], ◌∷◌, ◌++◌, leb, length, Some}
 use Rattle.secrets.specs.Choice.{pick}
 use Rattle.label.specs.Label.{table, value_of}
 use Rattle.label.specs.declared.field.Field.{Field}
-use Rattle.label.specs.declared.field.Lookup.TheVariants.{At}
+use Rattle.label.specs.declared.field.Lengths.{Lengths}
 
 -- a field as it is meant: a tag and a value
 pub record Plain : Type 0 where
@@ -27,8 +27,8 @@ pub data Ascending : ℕ → List Plain → Type 0 where
 -- each length is one that the table has for its tag
 pub data InTable : List Plain → Type 0 where
   none : InTable []
-  sized : {p : Plain} {ps : List Plain} → (table p.tag).known ≡ true → (table p.tag).least ≤ length p.value
-      → length p.value ≤ (table p.tag).most → InTable ps → InTable (p ∷ ps)
+  sized : {p : Plain} {ps : List Plain} {row : Lengths} → table p.tag ≡ Some row → row.least ≤ length p.value
+      → length p.value ≤ row.most → InTable ps → InTable (p ∷ ps)
 
 -- a field with a tag is there
 pub data Present (t : ℕ) : List Plain → Type 0 where
@@ -46,7 +46,7 @@ pub record GoodRecord (s : List ℕ) (ps : List Plain) : Type 0 where
 
 -- a field that was read, as it is meant
 abbrev pub plain : List ℕ → Field → Plain
-plain s f = record { tag = f.tag; value = value_of s (At f) }
+plain s f = record { tag = f.tag; value = value_of s (Some f) }
 
 -- the values of the fields with tags up to n, in the record's order
 unfoldable pub values_to : ℕ → List Plain → List ℕ

@@ -1,14 +1,9 @@
 -- The numbers that come back from a record, with what is returned beside each (docs/RULES.md, section 8). Assumes nothing.
-use Rattle.std.specs.Prelude.{ℕ}
+use Rattle.std.specs.Prelude.{ℕ, Result, Ok, Err}
 use Rattle.label.specs.declared.field.Why.{Why}
 use Rattle.label.specs.declared.field.Why.TheVariants.{TooLong, Cut, NoSuchTag, NotAbove, BadLength, Missing, NotListed}
 use Rattle.label.specs.declared.field.Refusal.{Refusal}
-use Rattle.label.specs.declared.field.Lookup.{Lookup}
-use Rattle.label.specs.declared.field.Lookup.TheVariants.{At, Refused}
-use Rattle.label.specs.declared.reading.Reading.{Reading}
-use Rattle.label.specs.declared.reading.Reading.TheVariants.{Good, Refused as Bad}
-use Rattle.label.specs.declared.fingerprint.Printed.{Printed}
-use Rattle.label.specs.declared.fingerprint.Printed.TheVariants.{Print, Refused as NoPrint}
+use Rattle.label.specs.declared.field.Field.{Field}
 
 -- a number of the table, and what is returned with it
 pub record Told : Type 0 where
@@ -34,16 +29,16 @@ abbrev pub told_refusal : Refusal → Told
 told_refusal r = record { number = number_of r.why; place = r.place; tag = 0; start = 0; length = 0; fingerprint = 0 }
 
 -- a field: 0, its place and tag, and where its value stands
-abbrev pub told_lookup : Lookup → Told
-told_lookup (At f) = record { number = 0; place = f.place; tag = f.tag; start = f.start; length = f.length; fingerprint = 0 }
-told_lookup (Refused r) = told_refusal r
+abbrev pub told_lookup : Result Field Refusal → Told
+told_lookup (Ok f) = record { number = 0; place = f.place; tag = f.tag; start = f.start; length = f.length; fingerprint = 0 }
+told_lookup (Err r) = told_refusal r
 
 -- a good record: 0, and nothing else
-abbrev pub told_reading : Reading → Told
-told_reading Good = record { number = 0; place = 0; tag = 0; start = 0; length = 0; fingerprint = 0 }
-told_reading (Bad r) = told_refusal r
+abbrev pub told_reading : Result Unit Refusal → Told
+told_reading (Ok u) = record { number = 0; place = 0; tag = 0; start = 0; length = 0; fingerprint = 0 }
+told_reading (Err r) = told_refusal r
 
 -- a fingerprint: 0 and the fingerprint
-abbrev pub told_printed : Printed → Told
-told_printed (Print v) = record { number = 0; place = 0; tag = 0; start = 0; length = 0; fingerprint = v }
-told_printed (NoPrint r) = told_refusal r
+abbrev pub told_printed : Result ℕ Refusal → Told
+told_printed (Ok v) = record { number = 0; place = 0; tag = 0; start = 0; length = 0; fingerprint = v }
+told_printed (Err r) = told_refusal r

@@ -1,55 +1,49 @@
 // Finding in a label record: the first tag of a lent list that the record has, and that field's own bytes.
 ghost use Rattle.std.specs.Prelude.{◌≡◌, ◌+◌, ◌≤◌, length};
-ghost use Rattle.label.specs.Numbers.{told_lookup};
+ghost use Rattle.std.specs.Result.{result_ok};
 ghost use Rattle.label.specs.Label.{walk_of, first_listed, find_of, start_of, length_of, Part};
 
-use crate::field::Lookup;
-use crate::reading::{Reading, field_with, not_listed, read};
+use crate::field::{Field, Refusal, Why};
+use crate::reading::{field_with, read};
 
 // The field of the first listed tag that a good record has. The list's order decides.
-pub fn find<'a, 'b>(record: &'a [u8], tags: &'b [u8]) -> Lookup
-    ensures { told_lookup result ≡ told_lookup (find_of «record».now tags.now) }
+#[tactic(auto, unfolding(crate::specs::Label::find_of))]
+pub fn find<'a, 'b>(record: &'a [u8], tags: &'b [u8]) -> Result<Field, Refusal>
+    ensures { result ≡ find_of «record».now tags.now }
 {
-    let reading = read(record);
-    match reading {
-        Reading::Good => first_listed(record, tags),
-        Reading::Refused(r) => Lookup::Refused(r),
-    }
+    read(record)?;
+    first_listed(record, tags).ok_or(Why::NotListed.at(0))
 }
 
 // The value of that field, as the record's own bytes; none where the record or the list is refused.
+#[tactic(auto, using(crate::proofs::FindLaws::find_within))]
 pub fn part<'a, 'b>(record: &'a [u8], tags: &'b [u8]) -> &'a [u8]
-    ensures { Part «record».entry (find_of «record».now tags.now) result }
+    ensures { Part «record».entry (result_ok (find_of «record».now tags.now)) result }
 {
-    let found = find(record, tags);
-    value_of(record, found)
+    value_of(record, find(record, tags).ok())
 }
 
-// The same where the record is known to be good.
-fn first_listed<'a, 'b>(record: &'a [u8], tags: &'b [u8]) -> Lookup
+// The field of the first listed tag that is there, of those that can be read.
+#[tactic(auto, using(crate::proofs::Listed::listed_laws))]
+fn first_listed<'a, 'b>(record: &'a [u8], tags: &'b [u8]) -> Option<Field>
     ensures { result ≡ first_listed (walk_of «record».now).fields tags.now }
 {
-    for i in 0..tags.len() {
-        let found = field_with(record, tags[i]);
-        match found {
-            Lookup::At(f) => return Lookup::At(f),
-            Lookup::Refused(_) => {}
+    for tag in tags {
+        if let Some(field) = field_with(record, *tag) {
+            return Some(field);
         }
     }
-    not_listed()
+    None
 }
 
-// The value that a look gives, as the record's own bytes.
-pub(crate) fn value_of(record: &[u8], found: Lookup) -> &[u8]
-    requires { start_of found + length_of found ≤ length «record».now }
-    ensures { Part «record».entry found result }
+// A field's value, as the record's own bytes: none where there is no field.
+#[tactic(auto, using(crate::proofs::Parts::part_laws))]
+pub(crate) fn value_of(record: &[u8], field: Option<Field>) -> &[u8]
+    requires { start_of field + length_of field ≤ length «record».now }
+    ensures { Part «record».entry field result }
 {
-    match found {
-        Lookup::At(f) => {
-            let start = f.start;
-            let end = f.start + f.length;
-            &record[start..end]
-        }
-        Lookup::Refused(_) => &record[0..0],
+    match field {
+        Some(f) => &record[f.start..f.start + f.length],
+        None => &record[0..0],
     }
 }

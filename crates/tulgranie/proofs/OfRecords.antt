@@ -1,6 +1,6 @@
 -- What is proved of label records, of the exported calls: of any answer that the contracts of `tulgranie_read`, `tulgranie_find` and
 -- `tulgranie_fingerprint` allow. Assumes nothing.
-use Rattle.std.proofs.Common.{◌≡◌, ℕ, ◌≤◌, true, false, List, ◌++◌, length, take, ap, ◌∙◌, Bor}
+use Rattle.std.proofs.Common.{◌≡◌, ℕ, ◌≤◌, true, false, List, ◌++◌, length, take, ap, ◌∙◌, Bor, Result, Ok, Err}
 use mathlib.Core.List.{flatten}
 use seplogic.Ra.Ura.{Ura}
 use base.Logic.{SProp, ent, via}
@@ -23,9 +23,6 @@ use Rattle.label.specs.Good.{Plain, laid_out, Present, GoodRecord, values_to}
 use Rattle.label.specs.Arrived.{Arrives}
 use Rattle.label.specs.Printing.{printing, in_parts, all_taken}
 use Rattle.label.specs.declared.field.Refusal.{Refusal}
-use Rattle.label.specs.declared.reading.Reading.{Reading}
-use Rattle.label.specs.declared.reading.Reading.TheVariants.{Refused as Bad}
-use Rattle.label.specs.declared.fingerprint.Printed.TheVariants.{Print}
 use Rattle.label.proofs.ByNumber.{by_number, eleven_exactly}
 use Rattle.label.proofs.CutShort.{arrived_read, print_refused, print_whole}
 use Rattle.label.proofs.InParts.{as_listed, in_parts_lem}
@@ -55,18 +52,18 @@ find_eleven κ d t r z p =
 -- of a good record s of the fields ps the first n bytes arrived
 module _ (s : List ℕ) (ps : List Plain) (g : GoodRecord s ps) (n : ℕ) (h : n ≤ length s) (κ : Lfts 1) (d : Bor (List ℕ)) (is : d.now ≡ take n s) where
   -- reading answers as the cases say
-  pub read_cut : (r : Answer) (z : _) → read.Post κ (d, tt) r z → {q : Reading} → Arrives ps n q → told_of r ≡ told_reading q
+  pub read_cut : (r : Answer) (z : _) → read.Post κ (d, tt) r z → {q : Result Unit Refusal} → Arrives ps n q → told_of r ≡ told_reading q
   read_cut r z p a = (rw is at p) ∙ ap told_reading (arrived_read s ps g n h a)
 
   -- the fingerprint the same refusal, with fingerprint 0
-  pub fingerprint_cut : (x : RapidSecrets) (r : Answer) (z : _) → fingerprint.Post κ (d, (x, tt)) r z → {q : Refusal} → Arrives ps n (Bad q)
+  pub fingerprint_cut : (x : RapidSecrets) (r : Answer) (z : _) → fingerprint.Post κ (d, (x, tt)) r z → {q : Refusal} → Arrives ps n (Err q)
       → told_of r ≡ told_refusal q
   fingerprint_cut x r z p a = (rw is at p) ∙ print_refused s ps g n h x a
 
   -- or the hash of the values that arrived
   pub fingerprint_whole : (x : RapidSecrets) (r : Answer) (z : _) → fingerprint.Post κ (d, (x, tt)) r z → (earlier later : List Plain)
       → ps ≡ earlier ++ later → n ≡ length (laid_out earlier) → Present 1 earlier → Present 2 earlier
-      → told_of r ≡ told_printed (Print (hash_of 7 true false x (values_to 4 earlier)))
+      → told_of r ≡ told_printed (Ok (hash_of 7 true false x (values_to 4 earlier)))
   fingerprint_whole x r z p earlier later e m one two =
       (rw is at p) ∙ ap told_printed (print_whole s ps g n h x earlier later e m one two)
 

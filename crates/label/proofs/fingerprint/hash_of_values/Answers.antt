@@ -4,10 +4,8 @@ use Rattle.label.proofs.fingerprint.hash_of_values.Goals as goal
 
 pub returns-in-Ok : goal.returns-in-Ok
 returns-in-Ok c =
-    hash_finished _ _ c.requires c.new-opening.ensures c.with_value-one.ensures c.with_value-two.ensures c.with_value-three.ensures
-    c.with_value-four.ensures c.finish-finished.result c.finish-finished.ensures c.in-Ok.is
+    hash_finished _ _ c.requires c.finish.result (rw (← c.new-opening.ensures) c.with_values.ensures) c.finish.ensures c.in-Ok.is
 
 pub returns-in-Err : goal.returns-in-Err
 returns-in-Err c =
-    never_unsound _ _ c.requires c.new-opening.ensures c.with_value-one.ensures c.with_value-two.ensures c.with_value-three.ensures
-    c.with_value-four.ensures c.finish-finished.result c.finish-finished.ensures c.in-Err.is
+    never_unsound _ _ c.requires c.finish.result (rw (← c.new-opening.ensures) c.with_values.ensures) c.finish.ensures c.in-Err.is
