@@ -1,5 +1,5 @@
 -- Lane by lane: two words into a lane, the first j lanes of a chunk's step and of their XOR, and one more. Assumes nothing.
-use Rattle.std.proofs.Common.{◌≡◌, ℕ, zero, suc, ◌+◌, ◌*◌, ◌<◌, ◌≤◌, Bool, ◌≢◌, List, length, get_or, take, set, bit_xor, refl, ap, ◌∙◌, add-one, arith, length-set, get_or-set_other, le-leb}
+use Rattle.std.proofs.Common.{◌≡◌, ℕ, zero, suc, ◌+◌, ◌*◌, ◌<◌, ◌≤◌, Bool, ◌≢◌, List, length, get_or, take, set, bit_xor, refl, ap, ◌∙◌, add-one, arith, length-set, get_or-set_other, get_or-take, le-leb}
 use borrow.Author.Tests.{lt-leb}
 use Rattle.secrets.specs.Mix.{mix}
 use Rattle.rapidhash.specs.Words.{word}
@@ -23,6 +23,14 @@ joined_more j l h = rw (add-one, h)
 -- and all
 pub joined_all : (l : List ℕ) {j n x : ℕ} → j ≤ n → n ≤ j → x ≡ joined j l → x ≡ joined n l
 joined_all l = at_end (λ j. joined j l)
+
+-- the XOR of the first lanes asks for no other
+pub joined_front : (j n : ℕ) (l : List ℕ) → j ≤ n → joined j (take n l) ≡ joined j l
+unfolding joined
+joined_front zero n l h = refl
+joined_front (suc j) n l h =
+    let lane : get_or (take n l) j 0 ≡ get_or l j 0 = get_or-take n l j 0 (omega arith) in
+    rw (joined_front j n l (omega arith), lane)
 
 module _ (p : Bool) (sec c l : List ℕ) where
   -- a step keeps the number of lanes

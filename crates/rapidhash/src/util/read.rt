@@ -71,10 +71,3 @@ fn array_at<const N: usize>(bytes: &[u8], at: usize) -> [u8; N]
 {
     *bytes[at..at + N].as_array().unwrap()
 }
-
-// A byte as a 64-bit number.
-pub(crate) fn wide(byte: u8) -> u64
-    ensures { (result ≡ byte) × (result < 256) }
-{
-    u64::from(byte)
-}

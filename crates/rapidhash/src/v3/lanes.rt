@@ -1,15 +1,10 @@
-// Whole chunks into lanes. The three sizes differ in their number of lanes alone, which is a literal at each call of
-// the lane loop: the compiler then unrolls it, keeps the lanes in registers and lifts the flag out.
-ghost use Rattle.std.specs.Prelude.{◌≡◌, ◌+◌, ◌*◌, ◌<◌, ◌≤◌, length};
+// Whole chunks into lanes. The three sizes differ in their number of lanes alone, which is a const parameter: the compiler
+// unrolls the lane loop, keeps the lanes in registers and lifts the flag out.
+ghost use Rattle.std.specs.Prelude.{◌≡◌, ◌+◌, ◌-◌, ◌*◌, ◌<◌, ◌≤◌, length, take};
 ghost use Rattle.rapidhash.specs.Hash.{lanes_of, mix_pair, chunk_step, first_of, mixed_of, joined};
 
 use crate::util::read::word8;
 use secrets::util::mix::rapid_mix;
-
-// The chunk of the full hash, as the stream of the Rust names it; its loop takes two a turn.
-const CHUNK_SIZE: usize = 112;
-
-const TWO_CHUNKS: usize = 224;
 
 // Which of the three hashes: 7, 5 or 3 lanes.
 #[derive(Clone, Copy)]
@@ -37,61 +32,89 @@ pub fn mix_chunks(
 ) -> Mixed
     ensures { result ≡ mixed_of (lanes_of size) protected secrets lanes «data».now }
 {
-    if let Size::Full = size {
-        if !compact {
-            return two_by_two(data, secrets, lanes, protected);
-        }
+    match size {
+        Size::Full => all_chunks::<7>(data, secrets, lanes, compact, protected),
+        Size::Micro => all_chunks::<5>(data, secrets, lanes, compact, protected),
+        Size::Nano => all_chunks::<3>(data, secrets, lanes, compact, protected),
     }
-    chunk_by_chunk(data, secrets, lanes, size, protected)
 }
 
-// The compact loop: a chunk a turn.
-fn chunk_by_chunk(
+// The same for any number of lanes.
+pub(crate) fn all_chunks<const L: usize>(
+    data: &[u8],
+    secrets: [u64; 7],
+    lanes: [u64; 7],
+    compact: bool,
+    protected: bool,
+) -> Mixed
+    requires { (0 < L) × (L ≤ 7) }
+    ensures { result ≡ mixed_of L protected secrets lanes «data».now }
+{
+    if compact {
+        chunk_by_chunk::<L>(data, secrets, lanes, protected)
+    } else {
+        two_by_two::<L>(data, secrets, lanes, protected)
+    }
+}
+
+// The compact loop: a chunk a turn. A chunk that a byte follows is one of all bytes but the last.
+fn chunk_by_chunk<const L: usize>(
     data: &[u8],
     secrets: [u64; 7],
     start: [u64; 7],
-    size: Size,
     protected: bool,
 ) -> Mixed
-    ensures { result ≡ mixed_of (lanes_of size) protected secrets start «data».now }
+    requires { (0 < L) × (L ≤ 7) }
+    ensures { result ≡ mixed_of L protected secrets start «data».now }
 {
-    let w = 16 * lane_count(size);
-    let mut l = start;
+    let mut lanes = start;
     let mut at = 0;
-    while w < data.len() - at {
-        let next = mix_chunk(&data[at..at + w], secrets, l, size, protected);
-        l = next;
-        at += w;
+    for chunk in front(data).chunks_exact(16 * L) {
+        let next = chunk_step::<L>(chunk, secrets, lanes, protected);
+        lanes = next;
+        at += 16 * L;
     }
-    Mixed { lanes: l, at }
+    Mixed { lanes, at }
 }
 
-// The loop of the full hash that is not compact: two chunks a turn, and at the end one more where one is left.
-fn two_by_two(data: &[u8], secrets: [u64; 7], start: [u64; 7], protected: bool) -> Mixed
-    ensures { result ≡ mixed_of 7 protected secrets start «data».now }
+// The loop that is not compact: two chunks a turn, and at the end one more where one is left.
+fn two_by_two<const L: usize>(
+    data: &[u8],
+    secrets: [u64; 7],
+    start: [u64; 7],
+    protected: bool,
+) -> Mixed
+    requires { (0 < L) × (L ≤ 7) }
+    ensures { result ≡ mixed_of L protected secrets start «data».now }
 {
-    let mut l = start;
+    let mut lanes = start;
     let mut at = 0;
-    while TWO_CHUNKS < data.len() - at {
-        let half = chunk_step(&data[at..at + CHUNK_SIZE], secrets, l, 7, protected);
-        let next = chunk_step(
-            &data[at + CHUNK_SIZE..at + TWO_CHUNKS],
-            secrets,
-            half,
-            7,
-            protected,
-        );
-        l = next;
-        at += TWO_CHUNKS;
+    let front = front(data);
+    for pair in front.chunks_exact(32 * L) {
+        let (first, second) = pair.split_at(16 * L);
+        let half = chunk_step::<L>(first, secrets, lanes, protected);
+        let next = chunk_step::<L>(second, secrets, half, protected);
+        lanes = next;
+        at += 32 * L;
     }
-    if CHUNK_SIZE < data.len() - at {
-        let next = chunk_step(&data[at..at + CHUNK_SIZE], secrets, l, 7, protected);
+    if let Some(chunk) = front[at..].get(..16 * L) {
+        let next = chunk_step::<L>(chunk, secrets, lanes, protected);
         return Mixed {
             lanes: next,
-            at: at + CHUNK_SIZE,
+            at: at + 16 * L,
         };
     }
-    Mixed { lanes: l, at }
+    Mixed { lanes, at }
+}
+
+// All bytes but the last.
+fn front(data: &[u8]) -> &[u8]
+    ensures { result.now ≡ take (length «data».now - 1) «data».now }
+{
+    match data.split_last() {
+        Some((_, front)) => front,
+        None => data,
+    }
 }
 
 // The first chunk of the bytes, whether or not one follows it; where they are fewer than a chunk, nothing.
@@ -104,49 +127,44 @@ pub fn mix_first(
 ) -> [u64; 7]
     ensures { result ≡ first_of (lanes_of size) protected secrets lanes bytes.now }
 {
-    let w = 16 * lane_count(size);
-    if bytes.len() < w {
-        return lanes;
+    match size {
+        Size::Full => first_chunk::<7>(bytes, secrets, lanes, protected),
+        Size::Micro => first_chunk::<5>(bytes, secrets, lanes, protected),
+        Size::Nano => first_chunk::<3>(bytes, secrets, lanes, protected),
     }
-    mix_chunk(&bytes[..w], secrets, lanes, size, protected)
 }
 
-// One chunk into the lanes of a size. Each arm has its lane count as a literal.
-fn mix_chunk(
-    chunk: &[u8],
+// The same for any number of lanes.
+fn first_chunk<const L: usize>(
+    bytes: &[u8],
     secrets: [u64; 7],
     lanes: [u64; 7],
-    size: Size,
     protected: bool,
 ) -> [u64; 7]
-    requires { 16 * lanes_of size ≤ length chunk.now }
-    ensures { result ≡ chunk_step (lanes_of size) protected secrets chunk.now lanes }
+    requires { L ≤ 7 }
+    ensures { result ≡ first_of L protected secrets lanes bytes.now }
 {
-    match size {
-        Size::Full => chunk_step(chunk, secrets, lanes, 7, protected),
-        Size::Micro => chunk_step(chunk, secrets, lanes, 5, protected),
-        Size::Nano => chunk_step(chunk, secrets, lanes, 3, protected),
+    match bytes.get(..16 * L) {
+        Some(chunk) => chunk_step::<L>(chunk, secrets, lanes, protected),
+        None => lanes,
     }
 }
 
-// One chunk into the first count lanes.
-fn chunk_step(
+// One chunk into the first L lanes.
+fn chunk_step<const L: usize>(
     chunk: &[u8],
     secrets: [u64; 7],
     start: [u64; 7],
-    count: usize,
     protected: bool,
 ) -> [u64; 7]
-    requires { (count ≤ 7) × (16 * count ≤ length chunk.now) }
-    ensures { result ≡ chunk_step count protected secrets chunk.now start }
+    requires { (L ≤ 7) × (16 * L ≤ length chunk.now) }
+    ensures { result ≡ chunk_step L protected secrets chunk.now start }
 {
-    let mut l = start;
-    let mut j = 0;
-    while j < count {
-        l[j] = mix_pair(chunk, 16 * j, secrets[j], l[j], protected);
-        j += 1;
+    let mut lanes = start;
+    for j in 0..L {
+        lanes[j] = mix_pair(chunk, 16 * j, secrets[j], lanes[j], protected);
     }
-    l
+    lanes
 }
 
 // Two words at a place, with a secret, into x.
@@ -161,38 +179,25 @@ pub(crate) fn mix_pair(bytes: &[u8], at: usize, secret: u64, x: u64, protected: 
     )
 }
 
-// The XOR of the lanes of a size. Each arm has its lane count as a literal.
+// The XOR of the lanes of a size.
 pub fn join(lanes: [u64; 7], size: Size) -> u64
     ensures { result ≡ joined (lanes_of size) lanes }
 {
     match size {
-        Size::Full => joined_lanes(lanes, 7),
-        Size::Micro => joined_lanes(lanes, 5),
-        Size::Nano => joined_lanes(lanes, 3),
+        Size::Full => joined_lanes::<7>(lanes),
+        Size::Micro => joined_lanes::<5>(lanes),
+        Size::Nano => joined_lanes::<3>(lanes),
     }
 }
 
-// The XOR of the first count lanes.
-fn joined_lanes(lanes: [u64; 7], count: usize) -> u64
-    requires { count ≤ 7 }
-    ensures { result ≡ joined count lanes }
+// The XOR of the first L lanes.
+pub(crate) fn joined_lanes<const L: usize>(lanes: [u64; 7]) -> u64
+    requires { L ≤ 7 }
+    ensures { result ≡ joined L lanes }
 {
     let mut x = 0;
-    let mut j = 0;
-    while j < count {
-        x = x ^ lanes[j];
-        j += 1;
+    for lane in &lanes[..L] {
+        x ^= *lane;
     }
     x
-}
-
-// The number of lanes.
-pub(crate) fn lane_count(size: Size) -> usize
-    ensures { (result ≡ lanes_of size) × (0 < result) × (result ≤ 7) }
-{
-    match size {
-        Size::Full => 7,
-        Size::Micro => 5,
-        Size::Nano => 3,
-    }
 }

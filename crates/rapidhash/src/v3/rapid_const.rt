@@ -1,11 +1,11 @@
 // The one-shot hashes, as the Rust's v3/rapid_const. The path by length, the tail and the last step are the same at
 // every size, so they stand here once.
-ghost use Rattle.std.specs.Prelude.{◌≡◌, true, false, [], ◌∷◌, ◌<◌, length};
+ghost use Rattle.std.specs.Prelude.{◌≡◌, true, false, [], ◌∷◌, ◌<◌, ◌≤◌, length};
 ghost use Rattle.secrets.specs.Secrets.{seed_cpp};
-ghost use Rattle.rapidhash.specs.Hash.{lanes_of, tail, reached_of, long_ends, ends_of, avalanched, last_of, hash_of};
+ghost use Rattle.rapidhash.specs.Hash.{tail, reached_of, long_ends, ends_of, avalanched, last_of, hash_of};
 
-use crate::util::read::{wide, word4, word8};
-use crate::v3::lanes::{Size, join, lane_count, mix_chunks, mix_pair};
+use crate::util::read::{word4, word8};
+use crate::v3::lanes::{all_chunks, joined_lanes, mix_pair};
 use secrets::util::mix::{rapid_mix, rapid_mum};
 use secrets::v3::seed::RapidSecrets;
 
@@ -49,7 +49,7 @@ pub fn rapidhash_v3_inline(
 ) -> u64
     ensures { result ≡ hash_of 7 avalanche protected secrets «data».now }
 {
-    rapidhash_core(data, secrets, Size::Full, avalanche, compact, protected)
+    rapidhash_core::<7>(data, secrets, avalanche, compact, protected)
 }
 
 // The hash of five lanes. Its answers are others than the full hash's from 81 bytes on.
@@ -61,7 +61,7 @@ pub fn rapidhash_v3_micro_inline(
 ) -> u64
     ensures { result ≡ hash_of 5 avalanche protected secrets «data».now }
 {
-    rapidhash_core(data, secrets, Size::Micro, avalanche, true, protected)
+    rapidhash_core::<5>(data, secrets, avalanche, true, protected)
 }
 
 // The hash of three lanes. Its answers are others than the full hash's from 49 bytes on.
@@ -73,33 +73,34 @@ pub fn rapidhash_v3_nano_inline(
 ) -> u64
     ensures { result ≡ hash_of 3 avalanche protected secrets «data».now }
 {
-    rapidhash_core(data, secrets, Size::Nano, avalanche, true, protected)
+    rapidhash_core::<3>(data, secrets, avalanche, true, protected)
 }
 
-fn rapidhash_core(
+// The hash of L lanes with every flag.
+fn rapidhash_core<const L: usize>(
     data: &[u8],
     secrets: RapidSecrets,
-    size: Size,
     avalanche: bool,
     compact: bool,
     protected: bool,
 ) -> u64
-    ensures { result ≡ hash_of (lanes_of size) avalanche protected secrets «data».now }
+    requires { (0 < L) × (L ≤ 7) }
+    ensures { result ≡ hash_of L avalanche protected secrets «data».now }
 {
-    let e = ends_by_length(data, secrets, size, compact, protected);
+    let e = ends_by_length::<L>(data, secrets, compact, protected);
     let s = secrets.secrets;
     last_step(e, s, avalanche, protected)
 }
 
 // The length class decides which bytes are read and whether the length goes into the seed.
-fn ends_by_length(
+fn ends_by_length<const L: usize>(
     data: &[u8],
     secrets: RapidSecrets,
-    size: Size,
     compact: bool,
     protected: bool,
 ) -> Ends
-    ensures { result ≡ ends_of (lanes_of size) protected secrets «data».now }
+    requires { (0 < L) × (L ≤ 7) }
+    ensures { result ≡ ends_of L protected secrets «data».now }
 {
     let n = data.len();
     let r = n as u64;
@@ -111,8 +112,8 @@ fn ends_by_length(
             Ends { a, b, seed, r }
         }
         1..=3 => {
-            let a = wide(data[0]) << 45 | wide(data[n - 1]);
-            let b = wide(data[n / 2]);
+            let a = u64::from(data[0]) << 45 | u64::from(data[n - 1]);
+            let b = u64::from(data[n / 2]);
             Ends { a, b, seed, r }
         }
         4..=7 => {
@@ -127,24 +128,23 @@ fn ends_by_length(
             let seed = seed ^ r;
             Ends { a, b, seed, r }
         }
-        _ => rapidhash_core_cold(data, secrets, size, compact, protected),
+        _ => rapidhash_core_cold::<L>(data, secrets, compact, protected),
     }
 }
 
 // More than 16 bytes: whole chunks, then the tail, then the message's last two words.
-fn rapidhash_core_cold(
+fn rapidhash_core_cold<const L: usize>(
     data: &[u8],
     secrets: RapidSecrets,
-    size: Size,
     compact: bool,
     protected: bool,
 ) -> Ends
-    requires { 16 < length «data».now }
-    ensures { result ≡ long_ends (lanes_of size) protected secrets «data».now }
+    requires { (0 < L) × (L ≤ 7) × (16 < length «data».now) }
+    ensures { result ≡ long_ends L protected secrets «data».now }
 {
     let n = data.len();
     let s = secrets.secrets;
-    let q = after_chunks(data, secrets, size, compact, protected);
+    let q = after_chunks::<L>(data, secrets, compact, protected);
     let at = q.at;
     let x = tail_steps(&data[at..], s[1], s[2], q.seed, protected);
     let r = (n - at) as u64;
@@ -157,24 +157,23 @@ fn rapidhash_core_cold(
 }
 
 // The chunks of a whole message. Up to one chunk none is mixed, and the seed is the caller's.
-fn after_chunks(
+fn after_chunks<const L: usize>(
     data: &[u8],
     secrets: RapidSecrets,
-    size: Size,
     compact: bool,
     protected: bool,
 ) -> Reached
-    ensures { result ≡ reached_of (lanes_of size) protected secrets «data».now }
+    requires { (0 < L) × (L ≤ 7) }
+    ensures { result ≡ reached_of L protected secrets «data».now }
 {
     let seed = secrets.seed;
-    if data.len() <= 16 * lane_count(size) {
+    if data.len() <= 16 * L {
         return Reached { seed, at: 0 };
     }
     let s = secrets.secrets;
-    let m = mix_chunks(data, s, [seed; 7], size, compact, protected);
-    let l = m.lanes;
+    let m = all_chunks::<L>(data, s, [seed; 7], compact, protected);
     Reached {
-        seed: join(l, size),
+        seed: joined_lanes::<L>(m.lanes),
         at: m.at,
     }
 }

@@ -1,12 +1,17 @@
--- The loop's invariant: x is the XOR of the first j lanes. Assumes nothing.
-use Rattle.std.proofs.Common.{arith, rules}
+-- One lane more, and at the end all of the first L: `joined_more`, `joined_front`. Assumes nothing.
+use Rattle.std.proofs.Common.{◌∙◌, rules, arith, length-take-le}
 use Rattle.rapidhash.specs.Hash.{joined}
-use Rattle.rapidhash.proofs.Lanes.{joined_more}
+use Rattle.rapidhash.proofs.Lanes.{joined_more, joined_all, joined_front}
 use Rattle.rapidhash.proofs.v3.lanes.joined_lanes.Goals as goal
 
-pub loop-j-init : goal.loop-j-init
+pub loop-lane-init : goal.loop-lane-init
 unfolding joined
-loop-j-init c = search rules
+loop-lane-init g c = search rules
 
-pub loop-j-preserved : goal.loop-j-preserved
-loop-j-preserved c = (omega arith, search joined_more)
+pub loop-lane-preserved : goal.loop-lane-preserved
+loop-lane-preserved g c = joined_more _ _ c.loop-lane.invariant
+
+pub returns : goal.returns
+returns g c =
+    let size = length-take-le g.row.L c.args.lanes (omega arith) in
+    joined_all _ (omega (arith, size)) (omega (arith, size)) c.loop-lane.invariant ∙ joined_front g.row.L g.row.L c.args.lanes (omega arith)

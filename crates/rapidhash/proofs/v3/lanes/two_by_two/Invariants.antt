@@ -1,11 +1,17 @@
--- As the loop that goes chunk by chunk, two turns at a time. Assumes nothing.
-use Rattle.std.proofs.Common.{◌≡◌, ◌-◌, ◌≤◌, length}
+-- The loop's invariant: what is left of the bytes begins at the place, and what the whole message is to give is what is ahead of it, into the lanes
+-- so far. Assumes nothing.
+use Rattle.std.proofs.Common.{◌≡◌, ◌-◌, ◌*◌, ◌≤◌, length, take, drop}
+use Rattle.std.specs.Slice.Iter.{chunks_exact_rest, chunks_exact_size}
 use Rattle.rapidhash.specs.Hash.{mixed_of}
 use Rattle.rapidhash.proofs.Chunks.{ahead}
 use Rattle.rapidhash.proofs.v3.lanes.two_by_two.Given as goal
 
-abbrev pub invariant-loop-at : goal.invariant-loop-at
-invariant-loop-at l = (l.at ≤ length l.data) × (mixed_of 7 l.protected l.secrets l.initial.l l.data ≡ ahead 7 l.protected l.secrets l.data l.at l.l)
-
-abbrev pub decreases-loop-at : goal.decreases-loop-at
-decreases-loop-at l = length l.data - l.at
+abbrev pub invariant-loop-pair : goal.invariant-loop-pair
+invariant-loop-pair g l = record {
+  can : (goal.iterator-loop-pair g).can_next l.pair-iterator;
+  finite : (goal.iterator-loop-pair g).is_finite l.pair-iterator;
+  size : chunks_exact_size l.pair-iterator ≡ 32 * g.row.L;
+  left : chunks_exact_rest l.pair-iterator ≡ drop l.at (take (length l.fn.data - 1) l.fn.data);
+  within : l.at ≤ length l.fn.data - 1;
+  ahead : mixed_of g.row.L l.protected l.secrets l.fn.start l.fn.data ≡ ahead g.row.L l.protected l.secrets l.fn.data l.at l.lanes;
+}

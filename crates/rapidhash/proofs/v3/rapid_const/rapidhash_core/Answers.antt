@@ -3,4 +3,4 @@ use Rattle.rapidhash.proofs.Steps.{hash_steps}
 use Rattle.rapidhash.proofs.v3.rapid_const.rapidhash_core.Goals as goal
 
 pub returns : goal.returns
-returns c = search hash_steps
+returns g c = search hash_steps
