@@ -1,6 +1,6 @@
 -- What a reader of the file program looks for: where nothing failed, the stream has taken the bytes of all parts that were read, in
 -- order, and its hash is the hash of the input as one message. Assumes nothing.
-use Rattle.std.proofs.Common.{◌≡◌, ℕ, ◌+◌, ◌≤◌, Bool, true, false, List, ◌++◌, length, sym, refl, ap, ◌∙◌, true≢false, arith, length-append}
+use Rattle.std.proofs.Common.{Option, None, Some, IfSome, Result, Ok, Err, OnOk, ◌≡◌, ℕ, ◌+◌, ◌≤◌, Bool, true, false, List, ◌++◌, length, sym, refl, ap, ◌∙◌, true≢false, arith, length-append}
 use native.Mathlib.Decide.{dec_le}
 use Rattle.secrets.specs.Secrets.{seed_cpp}
 use Rattle.rapidhash.specs.Hash.{chunks, hash_of}
@@ -10,10 +10,14 @@ use Rattle.stream.specs.declared.rapid_stream_hasher.RapidStreamHasher.{RapidStr
 use Rattle.stream.specs.declared.rapid_stream_hasher.Finished.TheVariants.{Hash}
 use Rattle.stream.proofs.After.{after, after_none, sofar_after, sound_after}
 use Rattle.stream.proofs.Demand3.{refused_too_long, taken_when, taken_after, finish_is_whole}
-use Rattle.rapid_file.specs.Parts.{part_bytes, progress_of, Came, none, part, bytes_in}
+use Rattle.rapid_file.specs.Parts.{part_bytes, progress_of, Came, none, part, bytes_in, CameFrom}
+use Rattle.rapid_file.specs.Lines.{hash_line, failed_line, line_of, IsLineOf, hashed, failed}
+use Rattle.std.specs.Io.KnownBytes.{Appends}
+use Rattle.std.proofs.KnownBytes.{Consumes-whole}
 use Rattle.rapid_file.specs.declared.Part.{Part}
 use Rattle.rapid_file.specs.declared.Progress.{Progress}
 use Rattle.rapid_file.proofs.PartLaws.{no_failure}
+use Rattle.rapid_file.proofs.LineLaws.{line_failed, line_hash}
 
 -- a stream that has taken just these bytes
 pub record Holds (o : Settings) (bytes : List ℕ) (h : RapidStreamHasher) : Type 0 where
@@ -57,3 +61,32 @@ input_hash c e =
     let o : Settings = record { secrets = seed_cpp 0; avalanche = true; protected = false } in
     let k = whole_input o c e in
     ap (finish_of 7) k.state ∙ finish_is_whole 7 (omega arith) (omega arith) o (bytes_in c) k.short
+
+-- the line that is written at the end of an input is the line of its hash, or the fixed one
+module _ {g : Progress} (a b : Option (List ℕ)) (w : CameFrom (opening_of (record { secrets = seed_cpp 0; avalanche = true; protected = false })) g a b) where
+  pub line_of_input : IfSome a (λ bytes. IsLineOf bytes (line_of g))
+  line_of_input = go g.failed refl
+    where
+      fixed : (o : Option (List ℕ)) → line_of g ≡ failed_line → IfSome o (λ bytes. IsLineOf bytes (line_of g))
+      fixed None e = tt
+      fixed (Some xs) e = rw e failed
+
+      go : (f : Bool) → g.failed ≡ f → IfSome a (λ bytes. IsLineOf bytes (line_of g))
+      go true e = fixed a (line_failed g e)
+      go false e =
+          let o : Settings = record { secrets = seed_cpp 0; avalanche = true; protected = false } in
+          let k = whole_input o w.parts e in
+          let n = chunks 112 (length (bytes_in w.parts)) in
+          let v = hash_of 7 true false (seed_cpp 0) (bytes_in w.parts) in
+          let u : line_of g ≡ hash_line v = line_hash g (Hash v n) (sym (input_hash w.parts e)) e v n refl in
+          Consumes-whole a b (bytes_in w.parts) (λ bytes. IsLineOf bytes (line_of g)) w.bytes (w.ended e k.short) (rw u (hashed k.short))
+
+  -- and so where the write succeeds
+  pub written_line : {T E : Type 0} (r : Result T E) (c d : Option (List ℕ)) → OnOk r (Appends c d (line_of g))
+      → OnOk r (IfSome a (λ bytes. (line : List ℕ) × IsLineOf bytes line × Appends c d line))
+  written_line (Err e) c d h = tt
+  written_line (Ok x) c d h = go a line_of_input
+    where
+      go : (o : Option (List ℕ)) → IfSome o (λ bytes. IsLineOf bytes (line_of g)) → IfSome o (λ bytes. (line : List ℕ) × IsLineOf bytes line × Appends c d line)
+      go None k = tt
+      go (Some xs) k = (line_of g, k, h)

@@ -1,8 +1,9 @@
 -- The input, part by part (docs/RULES.md, section 6): what one part comes to, and what parts come to that were read one after
 -- another. Assumes nothing.
-use Rattle.std.specs.Prelude.{ℕ, ◌≡◌, true, false, List, [], ◌++◌, eqb, take}
+use Rattle.std.specs.Prelude.{ℕ, ◌≡◌, ◌≤◌, true, false, List, [], ◌++◌, eqb, length, take, Option}
+use Rattle.std.specs.Io.KnownBytes.{Consumes, IsAtEnd}
 use Rattle.secrets.specs.Choice.{pick}
-use Rattle.stream.specs.State.{write_of}
+use Rattle.stream.specs.State.{most, write_of}
 use Rattle.stream.specs.declared.rapid_stream_hasher.RapidStreamHasher.{RapidStreamHasher}
 use Rattle.rapid_file.specs.declared.Part.{Part}
 use Rattle.rapid_file.specs.declared.Progress.{Progress}
@@ -35,3 +36,10 @@ pub data Came (h : RapidStreamHasher) : Progress → Type 0 where
 unfoldable pub bytes_in : {h : RapidStreamHasher} {g : Progress} → Came h g → List ℕ
 bytes_in none = []
 bytes_in (part p c m) = bytes_in c ++ part_bytes p
+
+-- what parts come to that a reader gave, by the bytes that it had before and has after, where they are known: the parts have those that it
+-- lost; and where nothing failed it has none left, unless they are more than a stream may have
+pub record CameFrom (h : RapidStreamHasher) (g : Progress) (before after : Option (List ℕ)) : Type 0 where
+  pub parts : Came h g
+  pub bytes : Consumes before after (bytes_in parts)
+  pub ended : g.failed ≡ false → length (bytes_in parts) ≤ most → IsAtEnd after

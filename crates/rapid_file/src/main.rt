@@ -3,12 +3,14 @@
 // input passes 2^64 - 1 bytes.
 #![tactic(auto)]
 
-ghost use Rattle.std.specs.Prelude.{◌≡◌, true, ◌<◌, ◌≤◌, length, take};
-ghost use Rattle.rapid_file.specs.Parts.{failed_with, progress_of, Came};
+ghost use Rattle.std.specs.Prelude.{◌≡◌, ℕ, true, false, ◌<◌, ◌≤◌, List, length, take, drop, OnOk, IfSome};
+ghost use Rattle.std.specs.Io.KnownBytes.{Appends, Consumes, IsAtEnd};
+ghost use Rattle.rapid_file.specs.Parts.{part_bytes, failed_with, progress_of, Came, CameFrom};
+ghost use Rattle.rapid_file.specs.Lines.{line_of, IsLineOf};
 
 use secrets::v3::seed::RapidSecrets;
 use std::io;
-use std::io::Read;
+use std::io::{Read, Write};
 use stream::rapid_stream_hasher::{Finished, Outcome, RapidStreamHasher};
 
 // A part of the input: its bytes, how many there are, whether more may follow, and whether a read failed.
@@ -29,15 +31,26 @@ struct Progress {
 }
 
 fn main(rt: HostRuntime) -> io::Result<()> {
-    let opened = RapidStreamHasher::new(RapidSecrets::default_secrets(), true, false);
     let mut input = rt.stdin();
-    says(&rt, through_parts(&mut input, opened))
+    let mut output = rt.stdout();
+    run(&mut input, &mut output)
+}
+
+// The program over any reader and any writer: where the input's bytes are known, the line that is written is that of their
+// hash, or the fixed one.
+pub fn run<R: Read, W: Write>(input: &mut R, output: &mut W) -> io::Result<()>
+    ensures { OnOk result (IfSome (R.remaining input.old) (λ bytes. (line : List ℕ) × IsLineOf bytes line
+        × Appends (W.contents output.old) (W.contents output.new) line)) }
+{
+    let opened = RapidStreamHasher::new(RapidSecrets::default_secrets(), true, false);
+    says(output, through_parts(input, opened))
 }
 
 // Part after part to the stream. The room left shrinks with each, so that even an endless input ends: behind the last full
 // part that fits there is room for 8,191 bytes, and the stream refuses more.
 fn through_parts<R: Read>(input: &mut R, opened: RapidStreamHasher) -> Progress
-    ensures { Came opened result }
+    ensures parts { Came opened result }
+    ensures bytes { CameFrom opened result (R.remaining input.old) (R.remaining input.new) }
 {
     let mut stream = opened;
     let mut room = u64::MAX;
@@ -90,20 +103,25 @@ fn failed(stream: RapidStreamHasher) -> Progress
 }
 
 // The answer: the hash, or the fixed line.
-fn says(rt: &impl Print, progress: Progress) -> io::Result<()> {
+fn says<W: Write>(output: &mut W, progress: Progress) -> io::Result<()>
+    ensures { OnOk result (Appends (W.contents output.old) (W.contents output.new) (line_of progress)) }
+{
     let stream = progress.stream;
     let finished = stream.finish();
     if !progress.failed {
         if let Finished::Hash(hash, _) = finished {
-            return println!(rt; "{hash:016x}");
+            return writeln!(output, "{hash:016x}");
         }
     }
-    println!(rt; "read failed")
+    writeln!(output, "read failed")
 }
 
 // Reads until the part is full, the input ends or a read fails.
 fn next_part<R: Read>(input: &mut R) -> Part
-    ensures { (8192 ≡ length result.bytes) × (result.count ≤ 8192) }
+    ensures room { (8192 ≡ length result.bytes) × (result.count ≤ 8192) }
+    ensures full { result.more ≡ true → result.count ≡ 8192 }
+    ensures bytes { Consumes (R.remaining input.old) (R.remaining input.new) (part_bytes result) }
+    ensures end { result.more ≡ false → result.failed ≡ false → IsAtEnd (R.remaining input.new) }
 {
     let mut part = Part {
         bytes: [0; 8192],
@@ -125,8 +143,11 @@ fn next_part<R: Read>(input: &mut R) -> Part
 // One read, behind the bytes that are there, which stay.
 fn with_more<R: Read>(input: &mut R, part: Part) -> Part
     requires { (8192 ≡ length part.bytes) × (part.count < 8192) }
-    ensures { (8192 ≡ length result.bytes) × (result.count ≤ 8192) × (result.more ≡ true → part.count < result.count)
+    ensures room { (8192 ≡ length result.bytes) × (result.count ≤ 8192) × (result.more ≡ true → part.count < result.count)
         × (take part.count result.bytes ≡ take part.count part.bytes) }
+    ensures grows { part.count ≤ result.count }
+    ensures bytes { Consumes (R.remaining input.old) (R.remaining input.new) (drop part.count (part_bytes result)) }
+    ensures end { result.more ≡ false → result.failed ≡ false → IsAtEnd (R.remaining input.new) }
 {
     let mut bytes = part.bytes;
     let count = part.count;
