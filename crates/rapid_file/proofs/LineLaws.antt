@@ -1,24 +1,28 @@
--- The line by what finish answers. Assumes nothing.
-use Rattle.std.proofs.Common.{ℕ, ◌≡◌, true, false}
+-- The answer by what finish answers. Assumes nothing.
+use Rattle.std.proofs.Common.{ℕ, ◌≡◌, Result, Ok, Err}
+use Rattle.std.proofs.lemmas.Bool.{false≢true}
+use Rattle.std.specs.Result.{IsErr}
 use Rattle.stream.specs.State.{ended, finish_of}
+use Rattle.stream.specs.declared.rapid_stream_hasher.RapidStreamHasher.{RapidStreamHasher}
 use Rattle.stream.specs.declared.rapid_stream_hasher.Finished.{Finished}
 use Rattle.stream.specs.declared.rapid_stream_hasher.Finished.TheVariants.{Hash, NotSound}
-use Rattle.rapid_file.specs.Lines.{hash_line, failed_line, line_of}
-use Rattle.rapid_file.specs.declared.Progress.{Progress}
+use Rattle.rapid_file.specs.Lines.{answer_of}
+use Rattle.rapid_file.specs.declared.part.ReadFailed.{ReadFailed}
 
-module _ (g : Progress) where
+module _ (g : Result RapidStreamHasher ReadFailed) where
   -- where something failed
-  pub line_failed : g.failed ≡ true → line_of g ≡ failed_line
-  unfolding line_of
-  line_failed e = rw e
+  pub answer_failed : (r : Result ℕ ReadFailed) {e : ReadFailed} → IsErr r → g ≡ Err e → r ≡ answer_of g
+  unfolding answer_of
+  answer_failed (Err x) i u = rw u
+  answer_failed (Ok v) i u = absurd (false≢true i)
 
-  module _ (f : Finished) (e : ended f ≡ finish_of 7 g.stream) (n : g.failed ≡ false) where
+  module _ (s : RapidStreamHasher) (u : g ≡ Ok s) (f : Finished) (e : ended f ≡ finish_of 7 s) where
     -- where finish has no hash
-    pub line_unsound : f ≡ NotSound → line_of g ≡ failed_line
-    unfolding line_of
-    line_unsound u = rw (n, ← e, u)
+    pub answer_unsound : f ≡ NotSound → Err (record {}) ≡ answer_of g
+    unfolding answer_of
+    answer_unsound n = rw (u, ← e, n)
 
     -- and where it has
-    pub line_hash : (v k : ℕ) → f ≡ Hash v k → line_of g ≡ hash_line v
-    unfolding line_of
-    line_hash v k u = rw (n, ← e, u)
+    pub answer_hash : (v k : ℕ) → f ≡ Hash v k → Ok v ≡ answer_of g
+    unfolding answer_of
+    answer_hash v k n = rw (u, ← e, n)

@@ -4,5 +4,5 @@ use Rattle.rapid_file.proofs.run.Goals as goal
 
 pub returns : goal.returns
 returns g c =
-    let w = rw (c.new-opened.ensures, c.default_secrets.ensures) at c.through_parts.ensures.bytes in
+    let w = rw (c.new-opened.ensures, c.default_secrets.ensures) at c.through_parts.ensures in
     written_line _ _ w _ _ _ c.says.ensures

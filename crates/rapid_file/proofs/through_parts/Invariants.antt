@@ -1,12 +1,8 @@
--- The room shrinks with each part, and the stream is what the parts so far come to, which have the bytes that filled the room. Assumes nothing.
-use Rattle.std.proofs.Common.{◌-◌}
-use Rattle.rapid_file.specs.Parts.{begun}
+-- The stream is what the full parts so far come to. Assumes nothing.
+use Rattle.std.proofs.Common.{true, Ok, ◌*◌}
 use Rattle.rapid_file.proofs.PartLaws.{Gave}
 use Rattle.rapid_file.proofs.through_parts.Given as goal
 
-abbrev pub invariant-loop-room : goal.invariant-loop-room
-invariant-loop-room g l =
-    Gave l.fn.opened (begun l.stream) (g.R.Read.remaining l.fn.input) (g.R.Read.remaining l.input) (0xffff_ffff_ffff_ffff - l.room)
-
-abbrev pub decreases-loop-room : goal.decreases-loop-room
-decreases-loop-room g l = l.room
+abbrev pub invariant-loop-parts : goal.invariant-loop-parts
+invariant-loop-parts g l =
+    Gave l.fn.opened true (Ok l.stream) (g.R.Read.remaining l.fn.input) (g.R.Read.remaining l.input) (8192 * l.parts)
