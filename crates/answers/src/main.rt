@@ -3,88 +3,49 @@
 // and secrets are the Rust's.
 #![tactic(auto)]
 
-ghost use Rattle.std.specs.Prelude.{◌≡◌, ◌≤◌, length, IfOk};
-
 mod hashes;
 mod records;
 mod show;
 mod words;
 
-use crate::hashes::{shows_hash, shows_secrets, shows_stream};
-use crate::records::{shows_finding, shows_fingerprint, shows_reading};
+use crate::hashes::{hash, secrets, stream_end};
+use crate::records::{fingerprinted, found, was_read};
 use crate::words::{secrets_of, word};
 use rapidhash::v3::lanes::Size;
+use std::alloc::{AllocError, Global};
 use std::io;
 use std::io::Read;
 
+// How many bytes of requests are read. What is beyond stays unread.
+const ROOM: u64 = 524288;
+
 fn main(rt: HostRuntime) -> io::Result<()> {
-    let mut space = all_of_it();
-    let mut input = rt.stdin();
-    let n = read_full(&mut input, &mut space)?;
-    lines(&rt, &space[..n])
-}
-
-// Room for every request. The `ensures` gives only the length, which lending the array as a slice needs.
-fn all_of_it() -> [u8; 524288]
-    ensures { 524288 ≡ length result }
-{
-    [0; 524288]
-}
-
-// Reads until there is no more room or no more input, and says how many bytes came. What is beyond stays unread.
-fn read_full<R: Read>(input: &mut R, space: &mut [u8]) -> io::Result<usize>
-    ensures { IfOk result (λ n. n ≤ length space.new) }
-{
-    let mut count = 0;
-    while count < space.len() {
-        let n = input.read(&mut space[count..])?;
-        if n == 0 {
-            break;
-        }
-        count += n;
-    }
-    Ok(count)
-}
-
-fn lines(rt: &impl Print, text: &[u8]) -> io::Result<()> {
+    let mut text = Vec::new(rt.alloc());
+    rt.stdin().take(ROOM).read_to_end(&mut text)?;
     for line in text.split(|byte| *byte == b'\n') {
-        answer(rt, line)?;
+        if asks(line) {
+            println!(rt; "{}", answer(rt.alloc(), line)?)?;
+        }
     }
     Ok(())
 }
 
 // A line that starts with `#`, and an empty one, ask for nothing.
-fn answer(rt: &impl Print, line: &[u8]) -> io::Result<()> {
-    if line.is_empty() {
-        return Ok(());
-    }
-    if line[0] == b'#' {
-        return Ok(());
-    }
-    if !is_about_hashes(rt, line)? {
-        about_records(rt, line)?;
-    }
-    println!(rt)
+fn asks(line: &[u8]) -> bool {
+    line.first().is_some_and(|byte| *byte != b'#')
 }
 
-fn about_records(rt: &impl Print, line: &[u8]) -> io::Result<()> {
+// The answer to a request, by its first word.
+fn answer(alloc: Global, line: &[u8]) -> Result<String, AllocError> {
     match word(line, 0) {
-        b"read" => shows_reading(rt, word(line, 1)),
-        b"find" => shows_finding(rt, word(line, 1), word(line, 2)),
-        b"finger" => shows_fingerprint(rt, word(line, 9), secrets_of(line, 1)),
-        _ => print!(rt; "error"),
+        b"full" => hash(alloc, line, Size::Full),
+        b"micro" => hash(alloc, line, Size::Micro),
+        b"nano" => hash(alloc, line, Size::Nano),
+        b"stream" => stream_end(alloc, line),
+        b"secrets" => secrets(alloc, word(line, 1)),
+        b"read" => was_read(alloc, word(line, 1)),
+        b"find" => found(alloc, word(line, 1), word(line, 2)),
+        b"finger" => fingerprinted(alloc, word(line, 9), secrets_of(line, 1)),
+        _ => String::from_str(alloc, "error"),
     }
-}
-
-// Whether the request was one about hashes, and then its answer.
-fn is_about_hashes(rt: &impl Print, line: &[u8]) -> io::Result<bool> {
-    match word(line, 0) {
-        b"full" => shows_hash(rt, line, Size::Full)?,
-        b"micro" => shows_hash(rt, line, Size::Micro)?,
-        b"nano" => shows_hash(rt, line, Size::Nano)?,
-        b"stream" => shows_stream(rt, line)?,
-        b"secrets" => shows_secrets(rt, word(line, 1))?,
-        _ => return Ok(false),
-    }
-    Ok(true)
 }

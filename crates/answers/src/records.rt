@@ -1,116 +1,94 @@
 // Answers about label records, by the numbers of the rules: 0 done, else why not.
 ghost use Rattle.std.specs.Prelude.{◌≤◌, length};
 
-use crate::show::{shows_bytes, shows_number, shows_numbers, shows_word};
-use crate::words::{bytes_of, least};
+use crate::show::Hex;
+use crate::words::bytes_of;
 use label::field::Refusal;
 use label::finding::{find, part};
 use label::fingerprint::fingerprint;
 use label::reading::read;
 use secrets::v3::seed::RapidSecrets;
-use std::io;
-use stream::rapid_stream_hasher::{Finished, RapidStreamHasher};
+use std::alloc::{AllocError, Global};
+use std::fmt;
+use stream::rapid_stream_hasher::RapidStreamHasher;
+
+// A refusal as an answer has it: number, place and no tag.
+#[derive(Drop)]
+struct Refused(Refusal);
+
+impl fmt::Display for Refused {
+    fn fmt<W: fmt::Write>(&self, f: &mut fmt::Formatter<W>) -> fmt::Result {
+        write!(f, "{} {} 0", u64::from(self.0.why), self.0.place)
+    }
+}
 
 // Number, place and tag.
-pub(crate) fn shows_reading(rt: &impl Print, text: &[u8]) -> io::Result<()> {
-    let bytes = bytes_of(text);
-    let held = bytes.held;
-    let count = bytes.count;
-    let reading = read(&held[0..count]);
-    match reading {
-        Ok(()) => shows_numbers(rt, 0, 0, 0),
-        Err(r) => shows_refusal(rt, r),
+pub(crate) fn was_read(alloc: Global, text: &[u8]) -> Result<String, AllocError> {
+    let record = bytes_of(alloc, text)?;
+    match read(&record) {
+        Ok(()) => String::from_str(alloc, "0 0 0"),
+        Err(r) => format!(in alloc; "{}", Refused(r)),
     }
 }
 
 // Number, tag, place and the value's own bytes.
-pub(crate) fn shows_finding(rt: &impl Print, text: &[u8], list: &[u8]) -> io::Result<()> {
-    let bytes = bytes_of(text);
-    let held = bytes.held;
-    let count = bytes.count;
-    let tags = bytes_of(list);
-    let listed = tags.held;
-    let many = tags.count;
-    let found = find(&held[0..count], &listed[0..many]);
-    match found {
-        Ok(f) => shows_numbers(rt, 0, f.tag as u64, f.place as u64)?,
-        Err(r) => { shows_numbers(rt, u64::from(r.why), 0, r.place as u64)? }
+pub(crate) fn found(alloc: Global, text: &[u8], list: &[u8]) -> Result<String, AllocError> {
+    let record = bytes_of(alloc, text)?;
+    let tags = bytes_of(alloc, list)?;
+    let value = Hex(part(&record, &tags));
+    match find(&record, &tags) {
+        Ok(field) => format!(in alloc; "0 {} {} {value}", field.tag, field.place),
+        Err(r) => format!(in alloc; "{} 0 {} {value}", u64::from(r.why), r.place),
     }
-    print!(rt; " ")?;
-    shows_bytes(rt, part(&held[0..count], &listed[0..many]))
 }
 
 // Number, place, tag, the fingerprint, and at how many of the places where the values can be cut in two the stream ends
 // in that fingerprint too.
-pub(crate) fn shows_fingerprint(
-    rt: &impl Print,
+pub(crate) fn fingerprinted(
+    alloc: Global,
     text: &[u8],
     secrets: RapidSecrets,
-) -> io::Result<()> {
-    let bytes = bytes_of(text);
-    let held = bytes.held;
-    let count = bytes.count;
-    let printed = fingerprint(&held[0..count], secrets);
-    match printed {
+) -> Result<String, AllocError> {
+    let record = bytes_of(alloc, text)?;
+    match fingerprint(&record, secrets) {
         Ok(hash) => {
-            shows_numbers(rt, 0, 0, 0)?;
-            shows_word(rt, hash)?;
-            shows_number(rt, cuts(&held[0..count], secrets, hash))
+            let same = cuts(&record, secrets, hash);
+            format!(in alloc; "0 0 0 {hash:016x} {same}")
         }
-        Err(r) => {
-            shows_refusal(rt, r)?;
-            shows_word(rt, 0)?;
-            shows_number(rt, 0)
-        }
+        Err(r) => format!(in alloc; "{} {:016x} 0", Refused(r), 0),
     }
-}
-
-fn shows_refusal(rt: &impl Print, r: Refusal) -> io::Result<()> {
-    shows_numbers(rt, u64::from(r.why), r.place as u64, 0)
 }
 
 // At how many places a cut in two leaves the fingerprint as it is: every place counts where the values are joined.
-fn cuts(record: &[u8], secrets: RapidSecrets, wanted: u64) -> u64
-    requires { length «record».now ≤ 8200 }
-{
-    let mut same = 0;
-    for at in 0..record.len() {
-        same += agrees(cut_at(record, secrets, at), wanted);
-    }
-    same
-}
-
-fn agrees(hash: u64, wanted: u64) -> u64
-    ensures { result ≤ 1 }
-{
-    if hash == wanted { 1 } else { 0 }
+fn cuts(record: &[u8], secrets: RapidSecrets, wanted: u64) -> usize {
+    (0..record.len())
+        .filter(|at| cut_at(record, secrets, *at) == Some(wanted))
+        .count()
 }
 
 // The hash of the values of tags 1 to 4 where each is written in two parts, so that one of them is cut at a place
 // inside it, be that inside a letter.
-fn cut_at(record: &[u8], secrets: RapidSecrets, at: usize) -> u64 {
+fn cut_at(record: &[u8], secrets: RapidSecrets, at: usize) -> Option<u64> {
     let mut stream = RapidStreamHasher::new(secrets, true, false);
     let mut left = at;
     for tag in 1u8..5 {
-        let list = [tag];
-        let value = part(record, &list);
-        let front = least(left, value.len());
-        let next = in_two(stream, value, front);
-        stream = next;
-        left = left - front;
+        let value = part(record, &[tag]);
+        let cut = left.min(value.len());
+        stream = in_two(stream, value, cut);
+        left -= cut;
     }
-    let finished = stream.finish();
-    match finished {
-        Ok(Finished { hash, .. }) => hash,
-        Err(_) => 0,
-    }
+    hash_of(stream)
 }
 
+// A stream with bytes that are cut at a place.
 fn in_two(stream: RapidStreamHasher, value: &[u8], at: usize) -> RapidStreamHasher
     requires { at ≤ length value.now }
 {
-    let first = stream.write(&value[0..at]);
-    let next = first.state;
-    let second = next.write(&value[at..]);
-    second.state
+    let (front, back) = value.split_at(at);
+    stream.write(front).state.write(back).state
+}
+
+// The hash that a stream ends in, unless it is not sound.
+fn hash_of(stream: RapidStreamHasher) -> Option<u64> {
+    stream.finish().ok().map(|end| end.hash)
 }

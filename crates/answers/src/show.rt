@@ -1,31 +1,33 @@
-// Numbers and bytes on standard output.
-use std::io;
+// Bytes and secrets as an answer has them.
+use secrets::v3::seed::RapidSecrets;
+use std::fmt;
 
-pub(crate) fn shows_numbers(rt: &impl Print, number: u64, one: u64, two: u64) -> io::Result<()> {
-    print!(rt; "{number}")?;
-    shows_number(rt, one)?;
-    shows_number(rt, two)
-}
+// Two hexadecimal digits for each byte, or `-` for no byte.
+#[derive(Drop)]
+pub(crate) struct Hex<'a>(pub(crate) &'a [u8]);
 
-pub(crate) fn shows_number(rt: &impl Print, n: u64) -> io::Result<()> {
-    print!(rt; " {n}")
-}
-
-// A 64-bit number.
-pub(crate) fn shows_word(rt: &impl Print, n: u64) -> io::Result<()> {
-    print!(rt; " {n:016x}")
-}
-
-pub(crate) fn shows_bytes(rt: &impl Print, bytes: &[u8]) -> io::Result<()> {
-    if bytes.is_empty() {
-        print!(rt; "-")?;
+impl fmt::Display for Hex<'_> {
+    fn fmt<W: fmt::Write>(&self, f: &mut fmt::Formatter<W>) -> fmt::Result {
+        if self.0.is_empty() {
+            return write!(f, "-");
+        }
+        for byte in self.0 {
+            write!(f, "{byte:02x}")?;
+        }
+        Ok(())
     }
-    for byte in bytes {
-        shows_byte(rt, *byte)?;
-    }
-    Ok(())
 }
 
-pub(crate) fn shows_byte(rt: &impl Print, byte: u8) -> io::Result<()> {
-    print!(rt; "{byte:02x}")
+// The seed and the seven secrets, each behind a space.
+#[derive(Drop)]
+pub(crate) struct All(pub(crate) RapidSecrets);
+
+impl fmt::Display for All {
+    fn fmt<W: fmt::Write>(&self, f: &mut fmt::Formatter<W>) -> fmt::Result {
+        write!(f, " {:016x}", self.0.seed)?;
+        for secret in self.0.secrets {
+            write!(f, " {secret:016x}")?;
+        }
+        Ok(())
+    }
 }

@@ -1,73 +1,37 @@
 // The words of a line, and the bytes and numbers that they stand for.
-ghost use Rattle.std.specs.Prelude.{◌≡◌, ◌+◌, ◌*◌, ◌<◌, ◌≤◌, length};
+ghost use Rattle.std.specs.Prelude.{◌<◌, ◌≤◌};
 
 use secrets::v3::seed::RapidSecrets;
+use std::alloc::{AllocError, Global};
+use std::array;
 
-// The bytes that a word stands for, at the front of an array with room for a record that is too long.
-#[derive(Drop)]
-pub struct Bytes {
-    pub held: [u8; 8200],
-    pub count: usize,
-}
+// Room for a record that is too long.
+const MOST_BYTES: usize = 8200;
 
 // The word with a number, from 0 on; an empty one where the line has no more.
 pub(crate) fn word(line: &[u8], number: usize) -> &[u8] {
-    let mut at = 0;
-    for i in 0..number {
-        let next = past_word(line, at);
-        at = next;
-    }
-    let end = word_end(line, at);
-    &line[at..end]
-}
-
-// Where the word at a place ends: at the next space, or with the line.
-fn word_end(line: &[u8], at: usize) -> usize
-    requires { at ≤ length line.now }
-    ensures from { at ≤ result }
-    ensures within { result ≤ length line.now }
-{
-    match line[at..].iter().position(|glyph| *glyph == b' ') {
-        Some(n) => at + n,
-        None => line.len(),
-    }
-}
-
-// Where the word after the one at a place starts, or the line's end.
-fn past_word(line: &[u8], at: usize) -> usize
-    requires { at ≤ length line.now }
-    ensures { result ≤ length line.now }
-{
-    let end = word_end(line, at);
-    if end < line.len() { end + 1 } else { end }
+    line.split(|glyph| *glyph == b' ')
+        .nth(number)
+        .unwrap_or(b"")
 }
 
 // Two digits make a byte. The word `-` has no byte.
-pub(crate) fn bytes_of(text: &[u8]) -> Bytes
-    ensures { (8200 ≡ length result.held) × (result.count ≤ 8200) }
-{
-    let mut held = [0u8; 8200];
-    let count = pairs(text);
-    for i in 0..count {
-        held[i] = digit(text[2 * i]) * 16 + digit(text[2 * i + 1]);
-    }
-    Bytes { held, count }
+pub(crate) fn bytes_of(alloc: Global, text: &[u8]) -> Result<Vec<u8>, AllocError> {
+    text.as_chunks::<2>()
+        .0
+        .iter()
+        .take(MOST_BYTES)
+        .map(|[high, low]| digit(*high) * 16 + digit(*low))
+        .collect(alloc)
 }
 
-// How many bytes a text stands for, as far as there is room.
-fn pairs(text: &[u8]) -> usize
-    ensures { (result ≤ 8200) × (2 * result ≤ length text.now) }
-{
-    let n = text.len() / 2;
-    if n <= 8200 { n } else { 8200 }
-}
-
+// The value of a digit, 0 for any other byte. (`to_digit` would take capital letters too.)
 fn digit(glyph: u8) -> u8
     ensures { result < 16 }
 {
     match glyph {
-        48..=57 => glyph - 48,
-        97..=102 => glyph - 87,
+        b'0'..=b'9' => glyph - b'0',
+        b'a'..=b'f' => glyph - b'a' + 10,
         _ => 0,
     }
 }
@@ -78,48 +42,29 @@ pub(crate) fn secrets_of(line: &[u8], from: usize) -> RapidSecrets
 {
     RapidSecrets {
         seed: number_of(word(line, from)),
-        secrets: [
-            number_of(word(line, from + 1)),
-            number_of(word(line, from + 2)),
-            number_of(word(line, from + 3)),
-            number_of(word(line, from + 4)),
-            number_of(word(line, from + 5)),
-            number_of(word(line, from + 6)),
-            number_of(word(line, from + 7)),
-        ],
+        secrets: array::from_fn(|i| number_of(word(line, from + 1 + i))),
     }
 }
 
+// The number that hexadecimal digits make, of its last 64 bits.
 pub(crate) fn number_of(text: &[u8]) -> u64 {
-    let mut n = 0;
-    for glyph in text {
-        n = n << 4 | digit(*glyph) as u64;
-    }
-    n
-}
-
-pub(crate) fn least(a: usize, b: usize) -> usize
-    ensures { (result ≤ a) × (result ≤ b) }
-{
-    if a <= b { a } else { b }
+    text.iter()
+        .fold(0, |n, glyph| n << 4 | u64::from(digit(*glyph)))
 }
 
 // A decimal number, at most 1,000.
 pub(crate) fn length_of(text: &[u8]) -> usize
     ensures { result ≤ 1000 }
 {
-    let mut n = 0;
-    for glyph in text {
-        n = least(n * 10 + digit(*glyph) as usize, 1000);
-    }
-    n
+    text.iter()
+        .fold(0usize, |n, glyph| {
+            n.saturating_mul(10)
+                .saturating_add(usize::from(digit(*glyph)))
+        })
+        .min(1000)
 }
 
 // Whether the digit at a place of a word is 1.
 pub(crate) fn flag(text: &[u8], at: usize) -> bool {
-    if at < text.len() {
-        text[at] == b'1'
-    } else {
-        false
-    }
+    text.get(at).is_some_and(|digit| *digit == b'1')
 }

@@ -11,180 +11,78 @@ use secrets::v3::seed::RapidSecrets;
 use std::io;
 use stream::rapid_stream_hasher::{Finished, RapidStreamHasher};
 
-// What a stream ends in.
-#[derive(Clone, Copy)]
-struct End {
-    hash: u64,
-    count: u64,
+// Lengths around the ends of the short path, of one chunk and of two, and two of nine chunks.
+const LENGTHS: [usize; 15] = [
+    0, 1, 15, 16, 17, 111, 112, 113, 114, 223, 224, 225, 226, 999, 1000,
+];
+
+// A message, a stream to write it to, and what that ends in after one write of the whole message, unless it fails.
+#[derive(Drop)]
+struct Trial<'a> {
+    fresh: RapidStreamHasher,
+    bytes: &'a [u8],
+    wanted: Option<Finished>,
+    ghost short: { length bytes.now ≤ 1000 },
 }
 
-// Lengths around the ends of the short path, of one chunk and of two, and two of nine chunks.
 fn main(rt: HostRuntime) -> io::Result<()> {
-    line(&rt, 0)?;
-    line(&rt, 1)?;
-    line(&rt, 15)?;
-    line(&rt, 16)?;
-    line(&rt, 17)?;
-    line(&rt, 111)?;
-    line(&rt, 112)?;
-    line(&rt, 113)?;
-    line(&rt, 114)?;
-    line(&rt, 223)?;
-    line(&rt, 224)?;
-    line(&rt, 225)?;
-    line(&rt, 226)?;
-    line(&rt, 999)?;
-    line(&rt, 1000)
+    for n in LENGTHS {
+        line(&rt, n)?;
+    }
+    Ok(())
 }
 
 // The line of the message of n bytes. Between them the even and the odd lengths have each flag on and off.
-fn line(rt: &impl Print, n: usize) -> io::Result<()>
-    requires { n ≤ 1000 }
-{
-    let bytes = message(n);
+fn line(rt: &impl Print, n: usize) -> io::Result<()> {
+    let message = message(n);
     let secrets = RapidSecrets::seed(0x0123456789abcdef);
     let fresh = RapidStreamHasher::new(secrets, n % 2 == 0, n % 2 == 1);
-    counts(rt, fresh, &bytes[0..n])
+    counts(rt, fresh, &message[..n.min(1000)])
 }
 
 // One write of the whole message sets what every cut is compared with.
 fn counts(rt: &impl Print, fresh: RapidStreamHasher, bytes: &[u8]) -> io::Result<()>
     requires { length bytes.now ≤ 1000 }
 {
-    let whole = took(fresh, bytes);
-    let wanted = end_of(whole);
-    print!(rt; "{} {:016x}", bytes.len(), wanted.hash)?;
-    shown(rt, " ", wanted.count)?;
-    shown(rt, " two ", two_parts(fresh, bytes, wanted))?;
-    shown(rt, " three ", three_parts(fresh, bytes, wanted))?;
-    shown(rt, " bytes ", byte_by_byte(fresh, bytes, wanted))?;
-    shown(rt, " empty ", with_empty_writes(fresh, bytes, wanted))?;
-    shown(rt, " middle ", finished_between(fresh, bytes, wanted))?;
-    shown(rt, " again ", again(whole, bytes, wanted))?;
-    println!(rt)
+    let wanted = took(fresh, bytes).and_then(end_of);
+    let trial = Trial {
+        fresh,
+        bytes,
+        wanted,
+    };
+    let n = bytes.len();
+    let (hash, count) = wanted.map_or((0, 0), |end| (end.hash, end.count));
+    let two = trial.two_parts(fresh, bytes);
+    let three = trial.three_parts();
+    let single = u8::from(trial.agrees(trial.byte_by_byte()));
+    let empty = u8::from(trial.agrees(trial.with_empty_writes()));
+    let middle = trial.finished_between();
+    let again = u8::from(trial.agrees(trial.again()));
+    print!(rt; "{n} {hash:016x} {count} two {two} three {three}")?;
+    println!(rt; " bytes {single} empty {empty} middle {middle} again {again}")
 }
 
-// A number and what stands before it.
-fn shown(rt: &impl Print, name: &str, number: u64) -> io::Result<()> {
-    print!(rt; "{name}{number}")
+// The stream with bytes written to it, unless it refuses them.
+fn took(stream: RapidStreamHasher, bytes: &[u8]) -> Option<RapidStreamHasher> {
+    let written = stream.write(bytes);
+    written.outcome.ok()?;
+    Some(written.state)
 }
 
-// The written state. A refused write must not pass for an empty one, so it leaves a count that no sound state has,
-// and finish then finds no hash.
-fn took(state: RapidStreamHasher, bytes: &[u8]) -> RapidStreamHasher {
-    let w = state.write(bytes);
-    let outcome = w.outcome;
-    let mut next = w.state;
-    match outcome {
-        Ok(()) => next,
-        Err(_) => {
-            next.count = u64::MAX;
-            next
-        }
-    }
+// What the stream ends in, unless it is not sound.
+fn end_of(stream: RapidStreamHasher) -> Option<Finished> {
+    stream.finish().ok()
 }
 
-fn end_of(state: RapidStreamHasher) -> End {
-    let finished = state.finish();
-    match finished {
-        Ok(Finished { hash, count }) => End { hash, count },
-        Err(_) => End { hash: 0, count: 0 },
-    }
-}
-
-// 1 if the stream ends in what is wanted, else 0. No hash at all is never what is wanted, whatever `end_of` made of
-// it.
-fn ends_in(state: RapidStreamHasher, wanted: End) -> u64
-    ensures { result ≤ 1 }
-{
-    let finished = state.finish();
-    match finished {
-        Ok(Finished { hash, count }) => {
-            if hash == wanted.hash && count == wanted.count {
-                1
-            } else {
-                0
-            }
-        }
-        Err(_) => 0,
-    }
-}
-
-// The state after the bytes in two parts, the first of them n long.
-fn in_two(start: RapidStreamHasher, bytes: &[u8], n: usize) -> RapidStreamHasher
-    requires { n ≤ length bytes.now }
-{
-    let first = took(start, &bytes[0..n]);
-    took(first, &bytes[n..])
-}
-
-// How many of the cuts into two parts end in what is wanted.
-fn two_parts(start: RapidStreamHasher, bytes: &[u8], wanted: End) -> u64
-    requires { length bytes.now ≤ 1000 }
-    ensures { result ≤ 1001 }
-{
-    let mut same = 0;
-    for i in 0..=bytes.len() {
-        same += ends_in(in_two(start, bytes, i), wanted);
-    }
-    same
-}
-
-// How many of the cuts into three do: a first part, and what follows it in two.
-fn three_parts(fresh: RapidStreamHasher, bytes: &[u8], wanted: End) -> u64
-    requires { length bytes.now ≤ 1000 }
-{
-    let mut same = 0;
-    for i in 0..=bytes.len() {
-        let first = took(fresh, &bytes[0..i]);
-        same += two_parts(first, &bytes[i..], wanted);
-    }
-    same
-}
-
-fn byte_by_byte(fresh: RapidStreamHasher, bytes: &[u8], wanted: End) -> u64 {
-    let mut state = fresh;
-    for i in 0..bytes.len() {
-        state = took(state, &bytes[i..i + 1]);
-    }
-    ends_in(state, wanted)
-}
-
-fn with_empty_writes(fresh: RapidStreamHasher, bytes: &[u8], wanted: End) -> u64 {
-    let half = bytes.len() / 2;
-    let before = took(fresh, b"");
-    let first = took(before, &bytes[0..half]);
-    let between = took(first, b"");
-    let second = took(between, &bytes[half..]);
-    ends_in(took(second, b""), wanted)
-}
-
-// How many of the cuts into two parts end in what is wanted with a finish between them.
-fn finished_between(fresh: RapidStreamHasher, bytes: &[u8], wanted: End) -> u64
-    requires { length bytes.now ≤ 1000 }
-{
-    let mut same = 0;
-    for i in 0..=bytes.len() {
-        same += finished_after(fresh, bytes, i, wanted);
-    }
-    same
-}
-
-// 1 if that finish finds the hash of the first n bytes, and the stream still ends in what is wanted.
-fn finished_after(fresh: RapidStreamHasher, bytes: &[u8], n: usize, wanted: End) -> u64
-    requires { n ≤ length bytes.now }
-    ensures { result ≤ 1 }
-{
-    let first = took(fresh, &bytes[0..n]);
-    if !is_hash_of(first, &bytes[0..n]) {
-        return 0;
-    }
-    ends_in(took(first, &bytes[n..]), wanted)
+// The stream after the bytes in two parts, the first of them n long.
+fn in_two(start: RapidStreamHasher, bytes: &[u8], n: usize) -> Option<RapidStreamHasher> {
+    let (front, back) = bytes.split_at_checked(n)?;
+    took(took(start, front)?, back)
 }
 
 // Whether finish finds the one-shot hash of the bytes.
-fn is_hash_of(state: RapidStreamHasher, bytes: &[u8]) -> bool {
-    let settings = state.settings;
+fn is_hash_of(stream: RapidStreamHasher, bytes: &[u8]) -> bool {
+    let settings = stream.settings;
     let secrets = settings.secrets;
     let hash = rapidhash_v3_inline(
         bytes,
@@ -193,14 +91,83 @@ fn is_hash_of(state: RapidStreamHasher, bytes: &[u8]) -> bool {
         false,
         settings.protected,
     );
-    let finished = state.finish();
-    match finished {
-        Ok(found) => found.hash == hash,
-        Err(_) => false,
-    }
+    end_of(stream).is_some_and(|end| end.hash == hash)
 }
 
-// A used stream, reset, and the message written again in two halves.
-fn again(used: RapidStreamHasher, bytes: &[u8], wanted: End) -> u64 {
-    ends_in(in_two(used.reset(), bytes, bytes.len() / 2), wanted)
+impl Trial<'_> {
+    // Whether a stream ends in what is wanted. One that failed never does.
+    fn agrees(&self, stream: Option<RapidStreamHasher>) -> bool {
+        let end = stream.and_then(end_of);
+        end.is_some() && end == self.wanted
+    }
+
+    // How many of the cuts of bytes into two parts end in what is wanted.
+    fn two_parts(&self, start: RapidStreamHasher, bytes: &[u8]) -> usize
+        requires { length bytes.now ≤ 1000 }
+        ensures { result ≤ 1001 }
+    {
+        (0..=bytes.len())
+            .filter(|n| self.agrees(in_two(start, bytes, *n)))
+            .count()
+    }
+
+    // How many of the cuts into three do: a first part, and what follows it in two. A loop, since the check does not
+    // prove of `map(..).sum()` over a range that the sum fits.
+    fn three_parts(&self) -> usize {
+        let mut same = 0;
+        for n in 0..=self.bytes.len() {
+            same += self.from_cut(n);
+        }
+        same
+    }
+
+    // How many of the cuts into three that begin with n bytes do.
+    fn from_cut(&self, n: usize) -> usize
+        ensures { result ≤ 1001 }
+    {
+        match self.bytes.split_at_checked(n) {
+            Some((front, back)) => match took(self.fresh, front) {
+                Some(first) => self.two_parts(first, back),
+                None => 0,
+            },
+            None => 0,
+        }
+    }
+
+    // The stream after the bytes one by one.
+    fn byte_by_byte(&self) -> Option<RapidStreamHasher> {
+        self.bytes.chunks(1).try_fold(self.fresh, took)
+    }
+
+    // The stream after two halves, with empty writes before, between and behind them.
+    fn with_empty_writes(&self) -> Option<RapidStreamHasher> {
+        let (front, back) = self.bytes.split_at(self.bytes.len() / 2);
+        let first = took(took(self.fresh, b"")?, front)?;
+        took(took(took(first, b"")?, back)?, b"")
+    }
+
+    // How many of the cuts into two parts end in what is wanted with a finish between them, which finds the hash of the
+    // first part.
+    fn finished_between(&self) -> usize {
+        (0..=self.bytes.len())
+            .filter(|n| self.agrees(self.finished_after(*n)))
+            .count()
+    }
+
+    // The stream after the bytes in two parts, if finish finds the hash of the first n bytes between them.
+    fn finished_after(&self, n: usize) -> Option<RapidStreamHasher> {
+        let (front, back) = self.bytes.split_at_checked(n)?;
+        let first = took(self.fresh, front)?;
+        if is_hash_of(first, front) {
+            took(first, back)
+        } else {
+            None
+        }
+    }
+
+    // A used stream, reset, and the message written again in two halves.
+    fn again(&self) -> Option<RapidStreamHasher> {
+        let used = took(self.fresh, self.bytes)?;
+        in_two(used.reset(), self.bytes, self.bytes.len() / 2)
+    }
 }

@@ -10,7 +10,21 @@ use rapidhash::v3::rapid_const::{
 };
 use samples::message;
 use secrets::v3::seed::RapidSecrets;
-use std::io;
+use std::{fmt, io};
+
+// Two flags, each off and on.
+const FLAGS: [(bool, bool); 4] = [(false, false), (false, true), (true, false), (true, true)];
+
+// Four hashes, by the flags in that order.
+#[derive(Drop)]
+struct Hashes([u64; 4]);
+
+impl fmt::Display for Hashes {
+    fn fmt<W: fmt::Write>(&self, f: &mut fmt::Formatter<W>) -> fmt::Result {
+        let [a, b, c, d] = self.0;
+        write!(f, "{a:016x} {b:016x} {c:016x} {d:016x}")
+    }
+}
 
 fn main(rt: HostRuntime) -> io::Result<()> {
     for n in 0..301 {
@@ -19,49 +33,43 @@ fn main(rt: HostRuntime) -> io::Result<()> {
     Ok(())
 }
 
-// The lines of the message of n bytes.
+// The lines of the message of n bytes, for four secrets: the default, one from a seed, one as the C++ has it, and all zero
+// but the seed.
 fn lines(rt: &impl Print, n: usize) -> io::Result<()>
     requires { n ≤ 300 }
 {
-    let bytes = message(n);
-    with_each_secrets(rt, &bytes[..n])
-}
-
-// A line for each of four secrets: the default, one from a seed, one as the C++ has it, and all zero but the seed.
-fn with_each_secrets(rt: &impl Print, bytes: &[u8]) -> io::Result<()> {
+    let message = message(n);
     let nothing = RapidSecrets {
         seed: 0,
         secrets: [0; 7],
     };
-    line(rt, bytes, RapidSecrets::default_secrets())?;
-    line(rt, bytes, RapidSecrets::seed(0x0123456789abcdef))?;
-    line(rt, bytes, RapidSecrets::seed_cpp(0xffffffffffffffff))?;
-    line(rt, bytes, nothing.reseed())
-}
-
-// Eight hashes of the full size, four of micro, four of nano.
-fn line(rt: &impl Print, bytes: &[u8], secrets: RapidSecrets) -> io::Result<()> {
-    for k in 0..16 {
-        shown(rt, nth(bytes, secrets, k), k == 15)?;
+    for secrets in [
+        RapidSecrets::default_secrets(),
+        RapidSecrets::seed(0x0123456789abcdef),
+        RapidSecrets::seed_cpp(0xffffffffffffffff),
+        nothing.reseed(),
+    ] {
+        line(rt, &message[..n], secrets)?;
     }
     Ok(())
 }
 
-// Hash number k of a line. The bits of k are the flags, protected lowest.
-fn nth(bytes: &[u8], secrets: RapidSecrets, k: usize) -> u64 {
-    let protected = k % 2 == 1;
-    match k {
-        0..=7 => rapidhash_v3_inline(bytes, secrets, k / 4 == 1, k / 2 % 2 == 1, protected),
-        8..=11 => rapidhash_v3_micro_inline(bytes, secrets, k / 2 % 2 == 1, protected),
-        _ => rapidhash_v3_nano_inline(bytes, secrets, k / 2 % 2 == 1, protected),
-    }
+// Eight hashes of the full size, four of micro, four of nano.
+fn line(rt: &impl Print, bytes: &[u8], secrets: RapidSecrets) -> io::Result<()> {
+    let plain = full(bytes, secrets, false);
+    let avalanched = full(bytes, secrets, true);
+    let micro = Hashes(FLAGS.map(|(avalanche, protected)| {
+        rapidhash_v3_micro_inline(bytes, secrets, avalanche, protected)
+    }));
+    let nano = Hashes(FLAGS.map(|(avalanche, protected)| {
+        rapidhash_v3_nano_inline(bytes, secrets, avalanche, protected)
+    }));
+    println!(rt; "{plain} {avalanched} {micro} {nano}")
 }
 
-// A hash and what separates it from the next.
-fn shown(rt: &impl Print, hash: u64, last: bool) -> io::Result<()> {
-    if last {
-        println!(rt; "{hash:016x}")
-    } else {
-        print!(rt; "{hash:016x} ")
-    }
+// The hashes of the full size with one flag given, by compact and protected.
+fn full(bytes: &[u8], secrets: RapidSecrets, avalanche: bool) -> Hashes {
+    Hashes(FLAGS.map(|(compact, protected)| {
+        rapidhash_v3_inline(bytes, secrets, avalanche, compact, protected)
+    }))
 }

@@ -1,129 +1,132 @@
 // One line for each thing that a call says, by its number: 0 done, 1 not sound, 2 too long.
-ghost use Rattle.std.specs.Prelude.{◌≡◌, ◌<◌, length};
-
 use crate::states::message_byte;
-use std::io;
-use stream::rapid_stream_hasher::{Finished, NotSound, RapidStreamHasher, WriteError, Written};
+use std::{array, fmt, io};
+use stream::rapid_stream_hasher::{Finished, NotSound, RapidStreamHasher, WriteError};
 
-// A state, and what a write of each size says of it.
-pub(crate) fn tried(
-    rt: &impl Print,
-    name: &str,
-    h: RapidStreamHasher,
-    sizes: &[u8],
-) -> io::Result<()> {
-    before(rt, name, h)?;
-    for size in sizes {
-        after(rt, name, h, *size)?;
+// A state with a name, and the sizes of the writes that are tried on it.
+#[derive(Drop)]
+pub(crate) struct Case<'a> {
+    name: &'a str,
+    state: RapidStreamHasher,
+    sizes: &'a [u8],
+}
+
+impl<'a> Case<'a> {
+    // A case of the table.
+    pub(crate) fn new(name: &'a str, state: RapidStreamHasher, sizes: &'a [u8]) -> Case<'a> {
+        Case { name, state, sizes }
+    }
+
+    // What the lines of the case itself begin with, or those of a write.
+    fn title(&self, written: Option<u8>) -> Title<'_> {
+        Title {
+            name: self.name,
+            written,
+            protected: self.state.settings.protected,
+        }
+    }
+}
+
+// What a line begins with: the case, the write if there is one, and the flags where they are not those of the first run.
+#[derive(Drop)]
+struct Title<'a> {
+    name: &'a str,
+    written: Option<u8>,
+    protected: bool,
+}
+
+impl fmt::Display for Title<'_> {
+    fn fmt<W: fmt::Write>(&self, f: &mut fmt::Formatter<W>) -> fmt::Result {
+        write!(f, "{}", self.name)?;
+        if let Some(n) = self.written {
+            write!(f, "+{n}")?;
+        }
+        if self.protected {
+            write!(f, "-protected")?;
+        }
+        Ok(())
+    }
+}
+
+// Where a state stands: the bytes that wait, and the chunks mixed.
+#[derive(Drop)]
+struct Place(RapidStreamHasher);
+
+impl fmt::Display for Place {
+    fn fmt<W: fmt::Write>(&self, f: &mut fmt::Formatter<W>) -> fmt::Result {
+        write!(f, "waiting {} count {}", self.0.waiting, self.0.count)
+    }
+}
+
+// Each state, and what a write of each size says of it.
+pub(crate) fn tried(rt: &impl Print, cases: &[Case<'_>]) -> io::Result<()> {
+    for case in cases {
+        shows_state(rt, &case.title(None), "state", case.state)?;
+        shows_finish(rt, &case.title(None), case.state)?;
+        writes(rt, case, case.state)?;
     }
     Ok(())
-}
-
-fn before(rt: &impl Print, name: &str, h: RapidStreamHasher) -> io::Result<()> {
-    named(rt, name, h)?;
-    shows_state(rt, " state", h)?;
-    named(rt, name, h)?;
-    shows_finish(rt, h.finish())
-}
-
-// The state that a write of n bytes gives: where it refuses, the very one that was given.
-fn after(rt: &impl Print, name: &str, h: RapidStreamHasher, n: u8) -> io::Result<()> {
-    let w = written(h, n as usize);
-    let next = w.state;
-    let outcome = w.outcome;
-    named_after(rt, name, h, n)?;
-    shows_write(rt, outcome, next)?;
-    named_after(rt, name, h, n)?;
-    shows_state(rt, " state", next)?;
-    named_after(rt, name, h, n)?;
-    shows_finish(rt, next.finish())
 }
 
 // After a reset every write goes as after an opening, whatever the state was.
-pub(crate) fn renewed(rt: &impl Print, name: &str, h: RapidStreamHasher) -> io::Result<()> {
-    let next = h.reset();
-    named(rt, name, h)?;
-    shows_state(rt, " reset", next)?;
-    after(rt, name, next, 113)
-}
-
-// What a write brings goes on where a full buffer ends, so that no byte of it is one that waits.
-fn written(h: RapidStreamHasher, n: usize) -> Written
-    requires { n < 256 }
-{
-    let bytes = message();
-    h.write(&bytes[..n])
-}
-
-fn message() -> [u8; 256]
-    ensures { 256 ≡ length result }
-{
-    let mut bytes = [0u8; 256];
-    for i in 0..256 {
-        bytes[i] = message_byte(112 + i);
-    }
-    bytes
-}
-
-// The case, and the flags where they are not those of the first run.
-fn named(rt: &impl Print, name: &str, h: RapidStreamHasher) -> io::Result<()> {
-    print!(rt; "{name}")?;
-    shows_flags(rt, h.settings.protected)
-}
-
-fn named_after(rt: &impl Print, name: &str, h: RapidStreamHasher, n: u8) -> io::Result<()> {
-    print!(rt; "{name}+{n}")?;
-    shows_flags(rt, h.settings.protected)
-}
-
-fn shows_flags(rt: &impl Print, protected: bool) -> io::Result<()> {
-    if protected {
-        print!(rt; "-protected")?;
+pub(crate) fn renewed(rt: &impl Print, cases: &[Case<'_>]) -> io::Result<()> {
+    for case in cases {
+        let next = case.state.reset();
+        shows_state(rt, &case.title(None), "reset", next)?;
+        writes(rt, case, next)?;
     }
     Ok(())
 }
 
-fn shows_state(rt: &impl Print, what: &str, h: RapidStreamHasher) -> io::Result<()> {
-    print!(rt; "{what}")?;
-    place(rt, h)?;
-    number(rt, " first ", h.buffer[16] as u64)?;
-    println!(rt)
+// The state that a write of n bytes gives: where it refuses, the very one that was given.
+fn writes(rt: &impl Print, case: &Case<'_>, state: RapidStreamHasher) -> io::Result<()> {
+    let bytes = message();
+    for size in case.sizes {
+        let title = case.title(Some(*size));
+        let written = state.write(&bytes[..usize::from(*size)]);
+        let (number, room) = said(written.outcome);
+        println!(rt; "{title} write {number} {room} {}", Place(written.state))?;
+        shows_state(rt, &title, "state", written.state)?;
+        shows_finish(rt, &title, written.state)?;
+    }
+    Ok(())
 }
 
-fn shows_write(
+// What a write brings goes on where a full buffer ends, so that no byte of it is one that waits.
+fn message() -> [u8; 256] {
+    array::from_fn(|i| message_byte(112 + i))
+}
+
+// The line of a state.
+fn shows_state(
     rt: &impl Print,
-    outcome: Result<(), WriteError>,
-    next: RapidStreamHasher,
+    title: &Title<'_>,
+    what: &str,
+    state: RapidStreamHasher,
 ) -> io::Result<()> {
+    let first = state.buffer[16];
+    println!(rt; "{title} {what} {} first {first}", Place(state))
+}
+
+// The line of what finish says of a state.
+fn shows_finish(rt: &impl Print, title: &Title<'_>, state: RapidStreamHasher) -> io::Result<()> {
+    let (number, hash, count) = found(state.finish());
+    println!(rt; "{title} finish {number} {hash:016x} {count}")
+}
+
+// The number of what a write says, and the room left.
+fn said(outcome: Result<(), WriteError>) -> (u8, u64) {
     match outcome {
-        Ok(()) => said(rt, 0, 0)?,
-        Err(WriteError::NotSound) => said(rt, 1, 0)?,
-        Err(WriteError::TooLong(room)) => said(rt, 2, room)?,
-    }
-    place(rt, next)?;
-    println!(rt)
-}
-
-fn said(rt: &impl Print, n: u64, room: u64) -> io::Result<()> {
-    print!(rt; " write {n} {room}")
-}
-
-fn shows_finish(rt: &impl Print, found: Result<Finished, NotSound>) -> io::Result<()> {
-    match found {
-        Ok(Finished { hash, count }) => hashed(rt, 0, hash, count),
-        Err(NotSound) => hashed(rt, 1, 0, 0),
+        Ok(()) => (0, 0),
+        Err(WriteError::NotSound) => (1, 0),
+        Err(WriteError::TooLong(room)) => (2, room),
     }
 }
 
-fn hashed(rt: &impl Print, n: u64, hash: u64, count: u64) -> io::Result<()> {
-    println!(rt; " finish {n} {hash:016x} {count}")
-}
-
-fn place(rt: &impl Print, h: RapidStreamHasher) -> io::Result<()> {
-    number(rt, " waiting ", h.waiting as u64)?;
-    number(rt, " count ", h.count)
-}
-
-fn number(rt: &impl Print, what: &str, n: u64) -> io::Result<()> {
-    print!(rt; "{what}{n}")
+// The number of what finish says, the hash and the number of chunks.
+fn found(finished: Result<Finished, NotSound>) -> (u8, u64, u64) {
+    match finished {
+        Ok(Finished { hash, count }) => (0, hash, count),
+        Err(NotSound) => (1, 0, 0),
+    }
 }

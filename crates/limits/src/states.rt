@@ -2,6 +2,7 @@
 ghost use Rattle.std.specs.Prelude.{◌<◌};
 
 use secrets::v3::seed::RapidSecrets;
+use std::array;
 use stream::rapid_stream_hasher::{RapidStreamHasher, Settings};
 
 // Avalanche is on exactly where protected is off, so that two runs see each flag on and off.
@@ -13,6 +14,7 @@ fn settings(protected: bool) -> Settings {
     }
 }
 
+// A stream as it is opened.
 pub(crate) fn opening(protected: bool) -> RapidStreamHasher {
     let s = settings(protected);
     RapidStreamHasher::new(s.secrets, s.avalanche, s.protected)
@@ -23,34 +25,22 @@ pub(crate) fn state(count: u64, waiting: usize, fill: u8, protected: bool) -> Ra
     let s = settings(protected);
     RapidStreamHasher {
         settings: s,
-        lanes: lanes(s.secrets.seed, fill as u64),
+        lanes: lanes(s.secrets.seed, fill),
         count,
         waiting,
         buffer: buffer(waiting, fill),
     }
 }
 
-fn lanes(seed: u64, fill: u64) -> [u64; 7]
-    requires { fill < 256 }
-{
-    let step = fill * 0x0001000100010001;
-    [
-        seed ^ step,
-        seed ^ step * 2,
-        seed ^ step * 3,
-        seed ^ step * 4,
-        seed ^ step * 5,
-        seed ^ step * 6,
-        seed ^ step * 7,
-    ]
+// Seven lanes, by the filling.
+fn lanes(seed: u64, fill: u8) -> [u64; 7] {
+    let step = u64::from(fill) * 0x0001000100010001;
+    [1, 2, 3, 4, 5, 6, 7].map(|i| seed ^ step.wrapping_mul(i))
 }
 
+// A buffer in which so many bytes wait.
 fn buffer(waiting: usize, fill: u8) -> [u8; 128] {
-    let mut bytes = [0u8; 128];
-    for i in 0..128 {
-        bytes[i] = held(i, waiting, fill);
-    }
-    bytes
+    array::from_fn(|i| held(i, waiting, fill))
 }
 
 // What stands at a place of the buffer.
@@ -78,7 +68,7 @@ pub(crate) fn with_lane(h: RapidStreamHasher, at: usize, bits: u64) -> RapidStre
     requires { at < 7 }
 {
     let mut next = h;
-    next.lanes[at] = h.lanes[at] ^ bits;
+    next.lanes[at] ^= bits;
     next
 }
 

@@ -1,2 +1,3 @@
 mod PartLaws
 mod WholeInput
+pub mod LineLaws

@@ -1,63 +1,95 @@
 -- What one part comes to, by what the read and the write say; and part after part. Assumes nothing.
-use Rattle.std.proofs.Common.{◌≡◌, ◌-◌, Bool, true, false, eqb, take, Ok, Err, refl, arith}
-use mathlib.Core.Bool.{false≢true}
-use Rattle.stream.specs.State.{said, answered, write_of}
+use Rattle.std.proofs.Common.{ℕ, ◌≡◌, ◌+◌, ◌<◌, ◌≤◌, false, eqb, List, ◌++◌, length, length-append, take, Option, Result, Ok, Err, refl, sym, ◌∙◌, ap, subst, arith}
+use Rattle.std.proofs.Math.Seq.{take-append-add}
+use Rattle.std.proofs.lemmas.List.{take-append-le, length-take-le}
+use Rattle.std.proofs.KnownBytes.{Consumes-nil, Consumes-trans}
+use Rattle.std.specs.Io.KnownBytes.{Consumes, IsAtEnd}
+use Rattle.std.specs.Result.{IsErr}
+use Rattle.std.proofs.lemmas.Bool.{false≢true}
+use Rattle.stream.specs.State.{said, answered, most, write_of}
 use Rattle.stream.specs.declared.rapid_stream_hasher.RapidStreamHasher.{RapidStreamHasher}
 use Rattle.stream.specs.declared.rapid_stream_hasher.WriteError.{WriteError}
 use Rattle.stream.specs.declared.rapid_stream_hasher.WriteError.TheVariants.{NotSound, TooLong}
 use Rattle.stream.specs.declared.rapid_stream_hasher.Written.{Written}
-use Rattle.secrets.specs.Choice.{pick}
-use Rattle.rapid_file.specs.Parts.{part_bytes, begun, failed_with, progress_of, Came, part}
-use Rattle.rapid_file.specs.declared.Part.{Part}
-use Rattle.rapid_file.specs.declared.Progress.{Progress}
+use Rattle.rapid_file.specs.Parts.{part_bytes, failed_with, progress_of, Came, none, part, bytes_in, CameFrom}
+use Rattle.rapid_file.specs.declared.part.Part.{Part}
+use Rattle.rapid_file.specs.declared.part.ReadFailed.{ReadFailed}
 
--- no refusal has the number 0
+-- a refusal has another number than 0
 not_zero : (e : WriteError) → eqb (said (Err e)).number 0 ≡ false
 not_zero NotSound = refl
 not_zero (TooLong r) = refl
 
-module _ (h : RapidStreamHasher) (p : Part) where
-  -- a failed read
-  pub part_failed : p.failed ≡ true → failed_with h ≡ progress_of h p
+module _ (h : RapidStreamHasher) (p : Part) (w : Written) (writes : answered w ≡ write_of 7 h (part_bytes p)) where
+  -- a part that the stream takes
+  pub part_took : w.outcome ≡ Ok tt → Ok w.state ≡ progress_of h p (Ok tt)
   unfolding progress_of
-  part_failed e = rw e
+  part_took e = rw (← writes, e)
 
-  module _ (w : Written) (reads : p.failed ≡ false) (writes : answered w ≡ write_of 7 h (take (p.count - 0) p.bytes)) where
-    -- all of the part's bytes were written
-    whole : answered w ≡ write_of 7 h (part_bytes p)
-    whole = let z : p.count - 0 ≡ p.count = omega arith in rw z at writes
+  -- a part that it does not take
+  pub part_refused : {e : WriteError} → w.outcome ≡ Err e → failed_with ≡ progress_of h p (Ok tt)
+  unfolding progress_of
+  part_refused {e} u = rw (← writes, u, not_zero e)
 
-    -- a part that the stream takes
-    pub part_took : w.outcome ≡ Ok tt → record { stream = w.state; more = p.more; failed = false } ≡ progress_of h p
-    unfolding progress_of
-    part_took e = rw (reads, ← whole, e)
+-- what the reads before put in front, and one that put n bytes behind the first a
+pub came_more : (a n : ℕ) (xs ys zs : List ℕ) (x y z : Option (List ℕ)) → a ≤ length xs → n ≤ length ys → Consumes x y (take a xs) → Consumes y z (take n ys)
+    → Consumes x z (take (a + n) (take a xs ++ (ys ++ zs)))
+came_more a n xs ys zs x y z h k p q =
+    let front : take (a + n) (take a xs ++ (ys ++ zs)) ≡ take a xs ++ take n (ys ++ zs) =
+    subst (λ (m : ℕ). take (m + n) (take a xs ++ (ys ++ zs)) ≡ take a xs ++ take n (ys ++ zs)) (length-take-le a xs h) (take-append-add (take a xs) (ys ++ zs) n) in
+    subst (Consumes x z) (sym (front ∙ ap (λ (l : List ℕ). take a xs ++ l) (take-append-le n ys zs k))) (Consumes-trans x y z _ _ p q)
 
-    -- a part that it does not take
-    pub part_refused : {e : WriteError} → w.outcome ≡ Err e → failed_with w.state ≡ progress_of h p
-    unfolding progress_of
-    part_refused {e} k = rw (reads, ← whole, k, not_zero e)
+-- parts that a reader gave, of n bytes in all
+pub record Gave (h : RapidStreamHasher) (g : Result RapidStreamHasher ReadFailed) (a b : Option (List ℕ)) (n : ℕ) : Type 0 where
+  pub parts : Came h g
+  pub bytes : Consumes a b (bytes_in parts)
+  pub long : length (bytes_in parts) ≡ n
 
--- while more may follow, nothing has failed
-pub no_failure : (h : RapidStreamHasher) (p : Part) → (progress_of h p).more ≡ true → progress_of h p ≡ begun (progress_of h p).stream
-unfolding progress_of
-no_failure h p = go p.failed (eqb (write_of 7 h (part_bytes p)).says.number 0) p.more
-  where
-    s : RapidStreamHasher
-    s = (write_of 7 h (part_bytes p)).state
+-- no part yet
+pub none_given : (h : RapidStreamHasher) (a : Option (List ℕ)) → Gave h (Ok h) a a 0
+unfolding bytes_in
+none_given h a = record { parts = none; bytes = Consumes-nil a; long = refl }
 
-    g : Bool → Bool → Bool → Progress
-    g failed took more = pick failed (failed_with h) (pick took (record { stream = s; more = more; failed = false }) (failed_with s))
+-- one part more, of which the reader lost the bytes
+module _ {h s : RapidStreamHasher} (p : Part) (a b c : Option (List ℕ)) (n : ℕ) (f : Gave h (Ok s) a b n) (k : Consumes b c (part_bytes p)) where
+  more_given : (r : Result (Unit {0}) ReadFailed) → Gave h (progress_of s p r) a c (n + p.count)
+  unfolding bytes_in
+  more_given r =
+      let le : p.count ≤ length p.bytes = omega (arith, p.size, p.within) in
+      record {
+        parts = part p r f.parts;
+        bytes = Consumes-trans a b c _ _ f.bytes k;
+        long = length-append (bytes_in f.parts) (part_bytes p) ∙ ap (λ (m : ℕ). m + length (part_bytes p)) f.long ∙ ap (λ (m : ℕ). n + m) (length-take-le p.count p.bytes le);
+      }
 
-    go : (failed took more : Bool) → (g failed took more).more ≡ true → g failed took more ≡ begun (g failed took more).stream
-    go false true more e = rw e
-    go false false more e = absurd (false≢true e)
-    go true took more e = absurd (false≢true e)
+  -- and no further
+  came_to : (r : Result (Unit {0}) ReadFailed) (q : Result RapidStreamHasher ReadFailed) → q ≡ progress_of s p r
+      → ((t : RapidStreamHasher) → q ≡ Ok t → n + p.count ≤ most → IsAtEnd c) → CameFrom h q a c
+  came_to r q e d =
+      let w = more_given r in
+      subst
+      (λ (g : Result RapidStreamHasher ReadFailed). CameFrom h g a c)
+      (sym e)
+      (record { parts = w.parts; bytes = w.bytes; ended = λ t u y. d t (e ∙ u) (subst (λ (m : ℕ). m ≤ most) w.long y) })
 
-module _ {h s : RapidStreamHasher} (p : Part) {r : Progress} (c : Came h (begun s)) (e : r ≡ progress_of s p) where
-  -- one part more
-  pub one_more : Came h r
-  one_more = rw e (part p c refl)
+  -- where a read failed
+  pub failed_read : (q : Result RapidStreamHasher ReadFailed) → IsErr q → CameFrom h q a c
+  unfolding progress_of
+  failed_read (Err x) i = came_to (Err x) (Err x) refl (λ t u. absurd (cc))
+  failed_read (Ok t) i = absurd (false≢true i)
 
-  -- and on from there
-  pub going_on : r.more ≡ true → Came h (begun r.stream)
-  going_on m = let k : r ≡ begun r.stream = rw e (no_failure s p (rw e at m)) in rw k at one_more
+  -- where the stream does not take the part
+  pub failed_write : (q v : Result RapidStreamHasher ReadFailed) {x : ReadFailed} → IsErr q → v ≡ Err x → v ≡ progress_of s p (Ok tt) → CameFrom h q a c
+  failed_write (Err y) v i u e = came_to (Ok tt) (Err y) (sym u ∙ e) (λ t z. absurd (cc))
+  failed_write (Ok t) v i u e = absurd (false≢true i)
+
+  -- where the input has ended, or is too long
+  pub last_part : (q : Result RapidStreamHasher ReadFailed) → q ≡ progress_of s p (Ok tt) → (n + p.count ≤ most → p.count < 8192)
+      → (p.count < 8192 → IsAtEnd c) → CameFrom h q a c
+  last_part q e o d = came_to (Ok tt) q e (λ t u y. d (o y))
+
+  -- and on from a full part
+  pub full_part : {t : RapidStreamHasher} (m : ℕ) → p.count ≡ 8192 → n + 8192 ≡ m → Ok t ≡ progress_of s p (Ok tt) → Gave h (Ok t) a c m
+  full_part {t} m u v e =
+      let j : n + p.count ≡ m = omega arith in
+      subst (Gave h (Ok t) a c) j (subst (λ (q : Result RapidStreamHasher ReadFailed). Gave h q a c (n + p.count)) (sym e) (more_given (Ok tt)))

@@ -3,144 +3,73 @@
 // input passes 2^64 - 1 bytes.
 #![tactic(auto)]
 
-ghost use Rattle.std.specs.Prelude.{◌≡◌, true, ◌<◌, ◌≤◌, length, take};
-ghost use Rattle.rapid_file.specs.Parts.{failed_with, progress_of, Came};
+ghost use Rattle.std.specs.Prelude.{◌≡◌, ℕ, List, OnOk, IfSome};
+ghost use Rattle.std.specs.Io.KnownBytes.{Appends};
+ghost use Rattle.rapid_file.specs.Parts.{CameFrom};
+ghost use Rattle.rapid_file.specs.Lines.{line_of, answer_of, IsLineOf};
 
+mod part;
+
+use crate::part::{Part, ReadFailed};
 use secrets::v3::seed::RapidSecrets;
 use std::io;
-use std::io::Read;
+use std::io::{Read, Write};
 use stream::rapid_stream_hasher::RapidStreamHasher;
 
-// A part of the input: its bytes, how many there are, whether more may follow, and whether a read failed.
-#[derive(Drop)]
-struct Part {
-    bytes: [u8; 8192],
-    count: usize,
-    more: bool,
-    failed: bool,
-}
-
-// The stream after some parts, whether more may follow, and whether the input has failed.
-#[derive(Drop)]
-struct Progress {
-    stream: RapidStreamHasher,
-    more: bool,
-    failed: bool,
-}
+// How many full parts a stream has room for.
+const FULL_PARTS: u64 = u64::MAX / 8192;
 
 fn main(rt: HostRuntime) -> io::Result<()> {
-    let opened = RapidStreamHasher::new(RapidSecrets::default_secrets(), true, false);
     let mut input = rt.stdin();
-    says(&rt, through_parts(&mut input, opened))
+    let mut output = rt.stdout();
+    run(&mut input, &mut output)
 }
 
-// Part after part to the stream. The room left shrinks with each, so that even an endless input ends: behind the last full
-// part that fits there is room for 8,191 bytes, and the stream refuses more.
-fn through_parts<R: Read>(input: &mut R, opened: RapidStreamHasher) -> Progress
-    ensures { Came opened result }
+// The program over any reader and any writer: where the input's bytes are known, the line that is written is that of their
+// hash, or the fixed one.
+fn run<R: Read, W: Write>(input: &mut R, output: &mut W) -> io::Result<()>
+    ensures { OnOk result (IfSome (R.remaining input.old) (λ bytes. (line : List ℕ) × IsLineOf bytes line
+        × Appends (W.contents output.old) (W.contents output.new) line)) }
 {
+    let opened = RapidStreamHasher::new(RapidSecrets::default_secrets(), true, false);
+    says(output, through_parts(input, opened))
+}
+
+// Part after part to the stream. The parts are counted, so that even an endless input ends: behind the last full one that
+// fits there is room for 8,191 bytes, and the stream refuses more.
+fn through_parts<R: Read>(
+    input: &mut R,
+    opened: RapidStreamHasher,
+) -> Result<RapidStreamHasher, ReadFailed>
+    ensures { CameFrom opened result (R.remaining input.old) (R.remaining input.new) }
+{
+    let mut part = Part::new();
     let mut stream = opened;
-    let mut room = u64::MAX;
-    while 8192 <= room {
-        let progress = with_part(stream, next_part(input));
-        let more = progress.more;
-        if !more {
-            return progress;
+    for parts in 0..FULL_PARTS {
+        part.fill(input)?;
+        let next = part.written_to(stream)?;
+        if !part.is_full() {
+            return Ok(next);
         }
-        let next = progress.stream;
         stream = next;
-        room -= 8192;
     }
-    with_part(stream, next_part(input))
-}
-
-// The stream with a part written to it, unless a read failed or the stream does not take it.
-fn with_part(stream: RapidStreamHasher, part: Part) -> Progress
-    requires { (8192 ≡ length part.bytes) × (part.count ≤ 8192) }
-    ensures { result ≡ progress_of stream part }
-{
-    let bytes = part.bytes;
-    let count = part.count;
-    let more = part.more;
-    if part.failed {
-        return failed(stream);
-    }
-    let written = stream.write(&bytes[0..count]);
-    let outcome = written.outcome;
-    let next = written.state;
-    match outcome {
-        Ok(()) => Progress {
-            stream: next,
-            more,
-            failed: false,
-        },
-        Err(_) => failed(next),
-    }
-}
-
-fn failed(stream: RapidStreamHasher) -> Progress
-    ensures { result ≡ failed_with stream }
-{
-    Progress {
-        stream,
-        more: false,
-        failed: true,
-    }
+    part.fill(input)?;
+    part.written_to(stream)
 }
 
 // The answer: the hash, or the fixed line.
-fn says(rt: &impl Print, progress: Progress) -> io::Result<()> {
-    let stream = progress.stream;
-    let finished = stream.finish();
-    if !progress.failed {
-        if let Ok(found) = finished {
-            return println!(rt; "{:016x}", found.hash);
-        }
+fn says<W: Write>(output: &mut W, ended: Result<RapidStreamHasher, ReadFailed>) -> io::Result<()>
+    ensures { OnOk result (Appends (W.contents output.old) (W.contents output.new) (line_of ended)) }
+{
+    match hash_of(ended) {
+        Ok(hash) => writeln!(output, "{hash:016x}"),
+        Err(_) => writeln!(output, "read failed"),
     }
-    println!(rt; "read failed")
 }
 
-// Reads until the part is full, the input ends or a read fails.
-fn next_part<R: Read>(input: &mut R) -> Part
-    ensures { (8192 ≡ length result.bytes) × (result.count ≤ 8192) }
+// The hash of a stream that nothing failed in.
+fn hash_of(ended: Result<RapidStreamHasher, ReadFailed>) -> Result<u64, ReadFailed>
+    ensures { result ≡ answer_of ended }
 {
-    let mut part = Part {
-        bytes: [0; 8192],
-        count: 0,
-        more: true,
-        failed: false,
-    };
-    while part.count < 8192 {
-        let next = with_more(input, part);
-        let more = next.more;
-        if !more {
-            return next;
-        }
-        part = next;
-    }
-    part
-}
-
-// One read, behind the bytes that are there, which stay.
-fn with_more<R: Read>(input: &mut R, part: Part) -> Part
-    requires { (8192 ≡ length part.bytes) × (part.count < 8192) }
-    ensures { (8192 ≡ length result.bytes) × (result.count ≤ 8192) × (result.more ≡ true → part.count < result.count)
-        × (take part.count result.bytes ≡ take part.count part.bytes) }
-{
-    let mut bytes = part.bytes;
-    let count = part.count;
-    match input.read(&mut bytes[count..]) {
-        Ok(n) => Part {
-            bytes,
-            count: count + n,
-            more: 0 < n,
-            failed: false,
-        },
-        Err(_) => Part {
-            bytes,
-            count,
-            more: false,
-            failed: true,
-        },
-    }
+    Ok(ended?.finish()?.hash)
 }

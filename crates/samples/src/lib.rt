@@ -10,8 +10,8 @@ pub fn message(n: usize) -> [u8; 1000]
     ensures { result ≡ message_of n }
 {
     let mut bytes = [0u8; 1000];
-    for i in 0..1000 {
-        bytes[i] = ((i * 197 + i / 3 * 59 + i / 7 * 113 + n % 256 * 101 + 7) % 256) as u8;
+    for (i, byte) in bytes.iter_mut().enumerate() {
+        *byte = ((i * 197 + i / 3 * 59 + i / 7 * 113 + n % 256 * 101 + 7) % 256) as u8;
     }
     bytes
 }

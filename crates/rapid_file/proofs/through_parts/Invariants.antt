@@ -1,9 +1,8 @@
--- The room shrinks with each part, and the stream is what the parts so far come to. Assumes nothing.
-use Rattle.rapid_file.specs.Parts.{begun, Came}
+-- The stream is what the full parts so far come to. Assumes nothing.
+use Rattle.std.proofs.Common.{Ok, ◌*◌}
+use Rattle.rapid_file.proofs.PartLaws.{Gave}
 use Rattle.rapid_file.proofs.through_parts.Given as goal
 
-abbrev pub invariant-loop-room : goal.invariant-loop-room
-invariant-loop-room g l = Came l.fn.opened (begun l.stream)
-
-abbrev pub decreases-loop-room : goal.decreases-loop-room
-decreases-loop-room g l = l.room
+abbrev pub invariant-loop-parts : goal.invariant-loop-parts
+invariant-loop-parts g l =
+    Gave l.fn.opened (Ok l.stream) (g.R.Read.remaining l.fn.input) (g.R.Read.remaining l.input) (8192 * l.parts)

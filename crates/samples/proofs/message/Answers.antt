@@ -1,5 +1,5 @@
 -- The sums are small, since only n % 256 counts. Assumes nothing.
-use Rattle.std.proofs.Common.{ℕ, ◌≡◌, refl, ◌∙◌, sym, ◌+◌, ◌*◌, ◌/◌, ◌%◌, ◌<◌, List, length, take, set, add-one, arith, rules, take-suc-set, take_all}
+use Rattle.std.proofs.Common.{ℕ, ◌≡◌, refl, ◌∙◌, sym, ◌+◌, ◌*◌, ◌/◌, ◌%◌, ◌<◌, List, length, take, set, add-one, arith, take-suc-set, take_all}
 use Rattle.std.proofs.Math.Nat.{add-mul-mod_self_left}
 use Rattle.samples.specs.Sample.{byte_at, bytes_of, message_of}
 use Rattle.samples.proofs.message.Goals as goal
@@ -24,13 +24,13 @@ all-bytes n i s h k e = sym (take_all i s (omega arith)) ∙ rw (← h) e
 
 pub loop-i-init : goal.loop-i-init
 unfolding bytes_of
-loop-i-init c = (refl, refl)
+loop-i-init c = refl
 
 pub loop-i-preserved : goal.loop-i-preserved
 loop-i-preserved c =
     let n = c.args.n in
     let i = c.loop-i.i in
-    (search rules, next-byte n i _ c.loop-i.bytes (omega arith) c.loop-i.invariant.1 (byte-at n i))
+    next-byte n i _ c.loop-i.byte-items (omega arith) c.loop-i.invariant (byte-at n i)
 
 pub returns : goal.returns
-returns c = all-bytes _ c.loop-i.i _ (omega arith) c.loop-i.invariant.0 c.loop-i.invariant.1
+returns c = all-bytes _ c.loop-i.i _ (omega arith) c.loop-i-test.array_long c.loop-i.invariant

@@ -1,0 +1,6 @@
+-- The hash is that which finish answers. Assumes nothing.
+use Rattle.rapid_file.proofs.LineLaws.{answer_failed, answer_unsound, answer_hash}
+use Rattle.rapid_file.proofs.hash_of.Goals as goal
+
+pub returns-in_err-ended : goal.returns-in_err-ended
+returns-in_err-ended c = answer_failed _ _ c.from_residual.ensures.0 c.in_err-ended.was

@@ -1,0 +1,87 @@
+// A part of the input, and how it is read and written to a stream.
+ghost use Rattle.std.specs.Prelude.{◌≡◌, ◌≤◌, length};
+
+use std::io;
+use std::io::Read;
+use stream::rapid_stream_hasher::{NotSound, RapidStreamHasher, WriteError};
+
+// Why there is no hash: a read failed, or the stream does not take what came.
+#[derive(Drop)]
+pub(crate) struct ReadFailed;
+
+impl From<io::Error> for ReadFailed {
+    fn from(_e: io::Error) -> ReadFailed {
+        ReadFailed
+    }
+}
+
+impl From<NotSound> for ReadFailed {
+    fn from(_e: NotSound) -> ReadFailed {
+        ReadFailed
+    }
+}
+
+impl From<WriteError> for ReadFailed {
+    fn from(_e: WriteError) -> ReadFailed {
+        ReadFailed
+    }
+}
+
+// The bytes of a part, and how many came.
+#[derive(Drop)]
+pub(crate) struct Part {
+    bytes: [u8; 8192],
+    count: usize,
+    ghost size: { 8192 ≡ length bytes },
+    ghost within: { count ≤ 8192 },
+}
+
+impl Part {
+    ghost use Rattle.std.specs.Prelude.{◌≡◌, ◌<◌, ◌↔◌, OnOk, IsTrue, Ok};
+    ghost use Rattle.std.specs.Io.KnownBytes.{Consumes, IsAtEnd};
+    ghost use Rattle.rapid_file.specs.Parts.{part_bytes, progress_of};
+
+    // A part with no byte.
+    pub(crate) fn new() -> Part {
+        Part {
+            bytes: [0; 8192],
+            count: 0,
+        }
+    }
+
+    // Whether more may follow, as it may only behind a full part.
+    pub(crate) fn is_full(&self) -> bool
+        ensures { IsTrue result ↔ (self.now.count ≡ 8192) }
+    {
+        self.count == 8192
+    }
+
+    // Reads anew until the part is full, the input ends or a read fails.
+    pub(crate) fn fill<R: Read>(&mut self, input: &mut R) -> Result<(), ReadFailed>
+        ensures bytes { Consumes (R.remaining input.old) (R.remaining input.new) (part_bytes self.new) }
+        ensures end { OnOk result (self.new.count < 8192 → IsAtEnd (R.remaining input.new)) }
+    {
+        self.count = 0;
+        while self.count < 8192 {
+            let count = self.count;
+            let n = input.read(&mut self.bytes[count..])?;
+            if n == 0 {
+                break;
+            }
+            self.count += n;
+        }
+        Ok(())
+    }
+
+    // The stream with all the part's bytes, unless it does not take them.
+    pub(crate) fn written_to(
+        &self,
+        stream: RapidStreamHasher,
+    ) -> Result<RapidStreamHasher, ReadFailed>
+        ensures { result ≡ progress_of stream self.now (Ok tt) }
+    {
+        let written = stream.write(&self.bytes[..self.count]);
+        written.outcome?;
+        Ok(written.state)
+    }
+}
