@@ -11,7 +11,7 @@ use Rattle.stream.specs.declared.rapid_stream_hasher.RapidStreamHasher.{RapidStr
 use Rattle.stream.specs.declared.rapid_stream_hasher.WriteError.{WriteError}
 use Rattle.stream.specs.declared.rapid_stream_hasher.WriteError.TheVariants.{NotSound, TooLong}
 use Rattle.stream.specs.declared.rapid_stream_hasher.Written.{Written}
-use Rattle.rapid_file.specs.Parts.{part_bytes, failed_with, progress_of, Came, none, part, bytes_in, CameFrom}
+use Rattle.rapid_file.specs.Parts.{part_bytes, progress_of, Came, none, part, bytes_in, CameFrom}
 use Rattle.rapid_file.specs.declared.part.Part.{Part}
 use Rattle.rapid_file.specs.declared.part.ReadFailed.{ReadFailed}
 
@@ -27,9 +27,10 @@ module _ (h : RapidStreamHasher) (p : Part) (w : Written) (writes : answered w �
   part_took e = rw (← writes, e)
 
   -- a part that it does not take
-  pub part_refused : {e : WriteError} → w.outcome ≡ Err e → failed_with ≡ progress_of h p (Ok tt)
+  pub part_refused : (q : Result RapidStreamHasher ReadFailed) {e : WriteError} → IsErr q → w.outcome ≡ Err e → q ≡ progress_of h p (Ok tt)
   unfolding progress_of
-  part_refused {e} u = rw (← writes, u, not_zero e)
+  part_refused (Err x) {e} i u = rw (← writes, u, not_zero e)
+  part_refused (Ok s) i u = absurd (false≢true i)
 
 -- what the reads before put in front, and one that put n bytes behind the first a
 pub came_more : (a n : ℕ) (xs ys zs : List ℕ) (x y z : Option (List ℕ)) → a ≤ length xs → n ≤ length ys → Consumes x y (take a xs) → Consumes y z (take n ys)

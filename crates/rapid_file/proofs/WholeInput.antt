@@ -1,6 +1,6 @@
 -- What a reader of the file program looks for: where nothing failed, the stream has taken the bytes of all parts that were read, in
 -- order, and its hash is the hash of the input as one message. Assumes nothing.
-use Rattle.std.proofs.Common.{Option, None, Some, IfSome, Result, Ok, Err, OnOk, ◌≡◌, ℕ, ◌+◌, ◌≤◌, Bool, true, false, List, ◌++◌, length, sym, refl, ap, ◌∙◌, subst, arith, length-append}
+use Rattle.std.proofs.Common.{Option, None, Some, IfSome, Result, Ok, Err, OnOk, ◌≡◌, ℕ, ◌+◌, ◌≤◌, true, false, List, ◌++◌, length, sym, refl, ap, ◌∙◌, subst, arith, length-append}
 use native.Mathlib.Decide.{dec_le}
 use Rattle.secrets.specs.Secrets.{seed_cpp}
 use Rattle.rapidhash.specs.Hash.{chunks, hash_of}
