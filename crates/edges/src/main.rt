@@ -4,7 +4,6 @@
 #![tactic(auto)]
 
 use rapidhash::util::read::{read_u32, read_u64};
-use secrets::util::found::Found;
 use secrets::v3::seed::RapidSecrets;
 use std::{fmt, io};
 

@@ -33,8 +33,8 @@ fn main(rt: HostRuntime) -> io::Result<()> {
     Ok(())
 }
 
-// The lines of the message of n bytes, for four secrets: the default, one from a seed, one as the C++ has it, and all zero
-// but the seed.
+// The lines of the message of n bytes, for four secrets: the default, one from a seed, one as the C++ has it, and all
+// zero but the seed.
 fn lines(rt: &impl Print, n: usize) -> io::Result<()>
     requires { n ≤ 300 }
 {

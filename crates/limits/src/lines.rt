@@ -27,7 +27,8 @@ impl<'a> Case<'a> {
     }
 }
 
-// What a line begins with: the case, the write if there is one, and the flags where they are not those of the first run.
+// What a line begins with: the case, the write if there is one, and the flags where they are not those of the first
+// run.
 #[derive(Drop)]
 struct Title<'a> {
     name: &'a str,

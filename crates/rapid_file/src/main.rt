@@ -1,6 +1,6 @@
 // The hash of standard input, as the Rust's v3/rapid_file: read into parts of 8,192 bytes, each filled before it is
-// written to the stream. Prints 16 hexadecimal digits, or `read failed` where a read fails, an interrupted one too, or the
-// input passes 2^64 - 1 bytes.
+// written to the stream. Prints 16 hexadecimal digits, or `read failed` where a read fails, an interrupted one too, or
+// the input passes 2^64 - 1 bytes.
 #![tactic(auto)]
 
 ghost use Rattle.std.specs.Prelude.{◌≡◌, ℕ, List, OnOk, IfSome};
@@ -25,8 +25,8 @@ fn main(rt: HostRuntime) -> io::Result<()> {
     run(&mut input, &mut output)
 }
 
-// The program over any reader and any writer: where the input's bytes are known, the line that is written is that of their
-// hash, or the fixed one.
+// The program over any reader and any writer: where the input's bytes are known, the line that is written is that of
+// their hash, or the fixed one.
 fn run<R: Read, W: Write>(input: &mut R, output: &mut W) -> io::Result<()>
     ensures { OnOk result (IfSome (R.remaining input.old) (λ bytes. (line : List ℕ) × IsLineOf bytes line
         × Appends (W.contents output.old) (W.contents output.new) line)) }
@@ -35,8 +35,8 @@ fn run<R: Read, W: Write>(input: &mut R, output: &mut W) -> io::Result<()>
     says(output, through_parts(input, opened))
 }
 
-// Part after part to the stream. The parts are counted, so that even an endless input ends: behind the last full one that
-// fits there is room for 8,191 bytes, and the stream refuses more.
+// Part after part to the stream. The parts are counted, so that even an endless input ends: behind the last full one
+// that fits there is room for 8,191 bytes, and the stream refuses more.
 fn through_parts<R: Read>(
     input: &mut R,
     opened: RapidStreamHasher,
