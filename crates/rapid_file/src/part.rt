@@ -65,10 +65,10 @@ impl Part {
         while self.count < 8192 {
             let count = self.count;
             let n = input.read(&mut self.bytes[count..])?;
+            self.count += n;
             if n == 0 {
                 break;
             }
-            self.count += n;
         }
         Ok(())
     }
