@@ -49,7 +49,7 @@ pub(crate) fn field_with(record: &[u8], tag: u8) -> Option<Field>
 }
 
 // From field to field, up to the one with a tag: the one loop over a record's fields. None where they end without it.
-// The place is no count: each field says where the next one starts, so an iterator of fields would be this loop and more.
+// The place is no count: each field says where the next one starts. An iterator of fields would be this loop and more.
 #[tactic(auto, using(crate::proofs::Walking::look_laws))]
 fn look_for(record: &[u8], tag: u8) -> Result<Option<Field>, Refusal>
     ensures { result ≡ sought_of tag (walk_of «record».now) }
