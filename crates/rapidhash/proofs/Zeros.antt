@@ -1,5 +1,5 @@
 -- Zero bytes by words: a word is zero exactly where its bytes are. Assumes nothing.
-use Rattle.std.proofs.Common.{◌≡◌, ℕ, zero, suc, ◌+◌, ◌-◌, ◌*◌, ◌^◌, ◌<◌, ◌≤◌, Bool, true, false, ◌&&◌, eqb, ◌⊎◌, List, [], ◌∷◌, refl, length, get_or, take, drop, sym, ◌∙◌, inl, inr, le_refl, eq-zero-or-pos, mul-pos, add-one, arith, length-drop, take_all, drop-cons, eq-eqb, ne_eqb}
+use Rattle.std.proofs.Common.{◌≡◌, ℕ, zero, suc, ◌+◌, ◌*◌, ◌^◌, ◌<◌, ◌≤◌, Bool, true, false, ◌&&◌, eqb, ◌⊎◌, List, [], ◌∷◌, refl, length, get_or, drop, sym, ◌∙◌, inl, inr, eq-zero-or-pos, mul-pos, add-one, arith, drop-cons, eq-eqb, ne_eqb}
 use Rattle.std.specs.List.{list_all}
 use native.Mathlib.Nat.{one-le-pow}
 use lib.Seq.{drop-length}
@@ -63,17 +63,11 @@ zero_word s (suc n) i h =
     ∙ rw (all_cons 0 s (i + n) (omega arith))
     (both_zero (word n s i) (get_or s (i + n) 0) (256 ^ n) (one-le-pow n 256 (omega arith)) (all_are 0 (drop (i + n + 1) s))))
 
-module _ (s : List ℕ) {b : Bool} (i : ℕ) (e : b ≡ all_are 0 (drop i s)) (h : i + 8 ≤ length s) {w : ℕ} (is : w ≡ word 8 s i) where
-  -- a word that is zero leaves the question to the rest
-  pub word_next : w ≡ 0 → b ≡ all_are 0 (drop (i + 8) s)
-  word_next z = e ∙ zero_word s 8 i h ∙ rw (eq-eqb (word 8 s i) 0 (sym is ∙ z))
+module _ (s : List ℕ) {b : Bool} (e : b ≡ all_are 0 s) (h : 8 ≤ length s) {w : ℕ} (is : w ≡ word 8 s 0) where
+  -- a first word that is zero leaves the question to the rest
+  pub word_next : w ≡ 0 → {r : List ℕ} → r ≡ drop 8 s → b ≡ all_are 0 r
+  word_next z er = e ∙ zero_word s 8 0 h ∙ rw (eq-eqb (word 8 s 0) 0 (sym is ∙ z), ← er)
 
   -- another one answers it
   pub word_not : (w ≡ 0 → ⊥) → false ≡ b
-  word_not z = sym (e ∙ zero_word s 8 i h ∙ rw (ne_eqb (word 8 s i) 0 (λ k. z (is ∙ k))))
-
--- what is found of a rest is found of all
-pub all_rest : (s : List ℕ) {b r : Bool} (i : ℕ) → b ≡ all_are 0 (drop i s) → r ≡ list_all (λ x. eqb x 0) (take (length s - i) (drop i s)) → r ≡ b
-all_rest s i e h =
-    let whole : take (length s - i) (drop i s) ≡ drop i s = take_all (length s - i) (drop i s) (rw length-drop (le_refl _)) in
-    h ∙ rw whole (list_all_zero (drop i s) ∙ sym e)
+  word_not z = sym (e ∙ zero_word s 8 0 h ∙ rw (ne_eqb (word 8 s 0) 0 (λ k. z (is ∙ k))))

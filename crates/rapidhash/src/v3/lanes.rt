@@ -1,5 +1,5 @@
-// Whole chunks into lanes. The three sizes differ in their number of lanes alone, which is a const parameter: the compiler
-// unrolls the lane loop, keeps the lanes in registers and lifts the flag out.
+// Whole chunks into lanes. The three sizes differ in their number of lanes alone, which is a const parameter, as is whether the
+// multiply is protected: the compiler unrolls the lane loop, keeps the lanes in registers and has no flag to test there.
 ghost use Rattle.std.specs.Prelude.{◌≡◌, ◌+◌, ◌-◌, ◌*◌, ◌<◌, ◌≤◌, length, take};
 ghost use Rattle.rapidhash.specs.Hash.{lanes_of, mix_pair, chunk_step, first_of, mixed_of, joined};
 
@@ -50,27 +50,27 @@ pub(crate) fn all_chunks<const L: usize>(
     requires { (0 < L) × (L ≤ 7) }
     ensures { result ≡ mixed_of L protected secrets lanes «data».now }
 {
-    if compact {
-        chunk_by_chunk::<L>(data, secrets, lanes, protected)
-    } else {
-        two_by_two::<L>(data, secrets, lanes, protected)
+    match (compact, protected) {
+        (true, true) => chunk_by_chunk::<L, true>(data, secrets, lanes),
+        (true, false) => chunk_by_chunk::<L, false>(data, secrets, lanes),
+        (false, true) => two_by_two::<L, true>(data, secrets, lanes),
+        (false, false) => two_by_two::<L, false>(data, secrets, lanes),
     }
 }
 
 // The compact loop: a chunk a turn. A chunk that a byte follows is one of all bytes but the last.
-fn chunk_by_chunk<const L: usize>(
+fn chunk_by_chunk<const L: usize, const PROTECTED: bool>(
     data: &[u8],
     secrets: [u64; 7],
     start: [u64; 7],
-    protected: bool,
 ) -> Mixed
     requires { (0 < L) × (L ≤ 7) }
-    ensures { result ≡ mixed_of L protected secrets start «data».now }
+    ensures { result ≡ mixed_of L PROTECTED secrets start «data».now }
 {
     let mut lanes = start;
     let mut at = 0;
     for chunk in front(data).chunks_exact(16 * L) {
-        let next = chunk_step::<L>(chunk, secrets, lanes, protected);
+        let next = chunk_step::<L, PROTECTED>(chunk, secrets, lanes);
         lanes = next;
         at += 16 * L;
     }
@@ -78,27 +78,26 @@ fn chunk_by_chunk<const L: usize>(
 }
 
 // The loop that is not compact: two chunks a turn, and at the end one more where one is left.
-fn two_by_two<const L: usize>(
+fn two_by_two<const L: usize, const PROTECTED: bool>(
     data: &[u8],
     secrets: [u64; 7],
     start: [u64; 7],
-    protected: bool,
 ) -> Mixed
     requires { (0 < L) × (L ≤ 7) }
-    ensures { result ≡ mixed_of L protected secrets start «data».now }
+    ensures { result ≡ mixed_of L PROTECTED secrets start «data».now }
 {
     let mut lanes = start;
     let mut at = 0;
     let front = front(data);
     for pair in front.chunks_exact(32 * L) {
         let (first, second) = pair.split_at(16 * L);
-        let half = chunk_step::<L>(first, secrets, lanes, protected);
-        let next = chunk_step::<L>(second, secrets, half, protected);
+        let half = chunk_step::<L, PROTECTED>(first, secrets, lanes);
+        let next = chunk_step::<L, PROTECTED>(second, secrets, half);
         lanes = next;
         at += 32 * L;
     }
     if let Some(chunk) = front[at..].get(..16 * L) {
-        let next = chunk_step::<L>(chunk, secrets, lanes, protected);
+        let next = chunk_step::<L, PROTECTED>(chunk, secrets, lanes);
         return Mixed {
             lanes: next,
             at: at + 16 * L,
@@ -145,24 +144,25 @@ fn first_chunk<const L: usize>(
     ensures { result ≡ first_of L protected secrets lanes bytes.now }
 {
     match bytes.get(..16 * L) {
-        Some(chunk) => chunk_step::<L>(chunk, secrets, lanes, protected),
+        Some(chunk) if protected => chunk_step::<L, true>(chunk, secrets, lanes),
+        Some(chunk) => chunk_step::<L, false>(chunk, secrets, lanes),
         None => lanes,
     }
 }
 
-// One chunk into the first L lanes.
-fn chunk_step<const L: usize>(
+// One chunk into the first L lanes. In line, so that the lanes stay in registers from chunk to chunk.
+#[inline(always)]
+fn chunk_step<const L: usize, const PROTECTED: bool>(
     chunk: &[u8],
     secrets: [u64; 7],
     start: [u64; 7],
-    protected: bool,
 ) -> [u64; 7]
     requires { (L ≤ 7) × (16 * L ≤ length chunk.now) }
-    ensures { result ≡ chunk_step L protected secrets chunk.now start }
+    ensures { result ≡ chunk_step L PROTECTED secrets chunk.now start }
 {
     let mut lanes = start;
     for j in 0..L {
-        lanes[j] = mix_pair(chunk, 16 * j, secrets[j], lanes[j], protected);
+        lanes[j] = mix_pair(chunk, 16 * j, secrets[j], lanes[j], PROTECTED);
     }
     lanes
 }

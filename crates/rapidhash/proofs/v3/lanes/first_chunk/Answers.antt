@@ -8,3 +8,6 @@ returns-in-None g c = let l = c.in-None.ensures.lookup in first_none _ _ _ _ _ (
 
 pub returns-in-Some : goal.returns-in-Some
 returns-in-Some g c = let l = c.in-Some.ensures.lookup in first_some _ _ _ _ _ (16 * g.row.L) refl (omega arith) (search (c.chunk_step.ensures, rules))
+
+pub returns-in-Some-2 : goal.returns-in-Some-2
+returns-in-Some-2 g c = let l = c.in-Some-2.ensures.lookup in first_some _ _ _ _ _ (16 * g.row.L) refl (omega arith) (search (c.chunk_step-in-Some-2.ensures, rules))

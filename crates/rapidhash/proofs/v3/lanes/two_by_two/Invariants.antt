@@ -1,6 +1,6 @@
 -- The loop's invariant: what is left of the bytes begins at the place, and what the whole message is to give is what is ahead of it, into the lanes
 -- so far. Assumes nothing.
-use Rattle.std.proofs.Common.{◌≡◌, ◌-◌, ◌*◌, ◌≤◌, length, take, drop}
+use Rattle.std.proofs.Common.{◌≡◌, not, eqb, ◌-◌, ◌*◌, ◌≤◌, length, take, drop}
 use Rattle.std.specs.Slice.Iter.{chunks_exact_rest, chunks_exact_size}
 use Rattle.rapidhash.specs.Hash.{mixed_of}
 use Rattle.rapidhash.proofs.Chunks.{ahead}
@@ -13,5 +13,5 @@ invariant-loop-pair g l = record {
   size : chunks_exact_size l.pair-iterator ≡ 32 * g.row.L;
   left : chunks_exact_rest l.pair-iterator ≡ drop l.at (take (length l.fn.data - 1) l.fn.data);
   within : l.at ≤ length l.fn.data - 1;
-  ahead : mixed_of g.row.L l.protected l.secrets l.fn.start l.fn.data ≡ ahead g.row.L l.protected l.secrets l.fn.data l.at l.lanes;
+  ahead : mixed_of g.row.L (not (eqb g.row.PROTECTED 0)) l.secrets l.fn.start l.fn.data ≡ ahead g.row.L (not (eqb g.row.PROTECTED 0)) l.secrets l.fn.data l.at l.lanes;
 }
