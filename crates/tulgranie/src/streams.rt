@@ -86,15 +86,14 @@ pub fn tulgranie_stream_write(stream: &mut RapidStreamHasher, data: &[u8]) -> St
 pub fn tulgranie_stream_finish(stream: &RapidStreamHasher) -> StreamEnded
     ensures { ended_of result ≡ finish_of 7 stream.now }
 {
-    (*stream).finish().into()
+    stream.finish().into()
 }
 
 // The opening state of the same settings, in place.
 pub fn tulgranie_stream_reset(stream: &mut RapidStreamHasher)
     ensures { stream.new ≡ reset_of stream.old }
 {
-    let next = (*stream).reset();
-    *stream = next;
+    *stream = stream.reset();
 }
 
 // A write by value, its outcome as a number.
@@ -102,10 +101,8 @@ fn written(state: RapidStreamHasher, data: &[u8]) -> StreamWritten
     ensures { answer_of result ≡ write_of 7 state «data».now }
 {
     let w = state.write(data);
-    let outcome = w.outcome;
-    let next = w.state;
     StreamWritten {
-        state: next,
-        says: outcome.into(),
+        state: w.state,
+        says: w.outcome.into(),
     }
 }
