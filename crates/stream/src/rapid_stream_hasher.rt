@@ -58,6 +58,7 @@ pub enum WriteError {
     TooLong(u64),
 }
 
+// A state that is not sound takes no bytes.
 impl From<NotSound> for WriteError {
     ghost from_gives = { λ _ e. e ≡ NotSound };
 
