@@ -11,22 +11,21 @@ use stream::rapid_stream_hasher::{Finished, NotSound, RapidStreamHasher, WriteEr
 pub fn reset(hasher: &mut RapidStreamHasher)
     ensures { hasher.new ≡ reset_of hasher.old }
 {
-    let next = (*hasher).reset();
-    *hasher = next;
+    *hasher = hasher.reset();
 }
 
 // The hash of the bytes so far, and how many chunks were mixed. The hasher is only looked at.
 pub fn finish(hasher: &RapidStreamHasher) -> Result<Finished, NotSound>
     ensures { ended result ≡ finish_of 7 hasher.now }
 {
-    (*hasher).finish()
+    hasher.finish()
 }
 
 // All bytes are taken in place, or none, and why.
 pub fn write(hasher: &mut RapidStreamHasher, data: &[u8]) -> Result<(), WriteError>
     ensures { record { state = hasher.new; says = said result } ≡ write_of 7 hasher.old «data».now }
 {
-    let w = (*hasher).write(data);
+    let w = hasher.write(data);
     *hasher = w.state;
     w.outcome
 }

@@ -61,10 +61,6 @@ sound_in_order h =
     (leb 1 h.waiting) (all_are 0 (drop (16 + h.waiting) h.buffer))
 
 module _ (k m : ℕ) where
-  -- more than a chunk waits
-  pub sized_wide : width < m → false ≡ pick (leb m width) (leb (width * k + m) most) false
-  sized_wide h = rw (lt-leb m width h)
-
   -- more chunks than the most bytes have
   pub sized_many : most_chunks < k → false ≡ pick (leb m width) (leb (width * k + m) most) false
   sized_many h = rw (lt-leb (width * k + m) most (omega arith)) (sym (no_choice (leb m width)))

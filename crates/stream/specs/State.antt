@@ -76,10 +76,9 @@ pub record AfterWrite : Type 0 where
 abbrev pub answered : Written → AfterWrite
 answered w = record { state = w.state; says = said w.outcome }
 
--- what a write that gives no state where it refuses leads to: the state as it was stays
-abbrev pub tried : RapidStreamHasher → Result RapidStreamHasher WriteError → AfterWrite
-tried h (Ok n) = record { state = n; says = said (Ok tt) }
-tried h (Err e) = record { state = h; says = said (Err e) }
+-- what a refused write answers: the state as it was, and why
+abbrev pub refused : RapidStreamHasher → WriteError → AfterWrite
+refused h e = record { state = h; says = said (Err e) }
 
 -- the state after all of the bytes
 unfoldable pub taken : ℕ → RapidStreamHasher → List ℕ → RapidStreamHasher

@@ -5,7 +5,7 @@ ghost use Rattle.secrets.specs.Choice.{pick, all_are};
 ghost use Rattle.rapidhash.specs.Words.{word};
 ghost use Rattle.stream.specs.Stream.{feed, stream_hash, slide};
 ghost use Rattle.stream.specs.State.{view, hold, opening_of, sofar, most, sound, taken, write_of, finish_of, reset_of};
-ghost use Rattle.stream.specs.State.{begun, answered, tried, ended};
+ghost use Rattle.stream.specs.State.{begun, answered, refused, ended};
 ghost use Rattle.stream.specs.declared.rapid_stream_hasher.WriteError.TheVariants.{NotSound};
 
 use rapidhash::util::read::{all_zero, read_u64};
@@ -57,6 +57,7 @@ pub enum WriteError {
     TooLong(u64),
 }
 
+// A state that is not sound takes no bytes.
 impl From<NotSound> for WriteError {
     ghost from_gives = { λ _ e. e ≡ NotSound };
 
@@ -96,11 +97,14 @@ impl RapidStreamHasher {
     pub fn write(self, data: &[u8]) -> Written
         ensures { answered result ≡ write_of 7 self «data».now }
     {
-        match self.with_all(data) {
-            Ok(state) => Written {
-                state,
-                outcome: Ok(()),
-            },
+        match self.ready_for(data) {
+            Ok(h) => {
+                let next = h.with_bytes(data);
+                Written {
+                    state: next,
+                    outcome: Ok(()),
+                }
+            }
             Err(error) => Written {
                 state: self,
                 outcome: Err(error),
@@ -126,21 +130,23 @@ impl RapidStreamHasher {
         opening(self.settings)
     }
 
-    // The state after all bytes, or why it does not take them.
-    fn with_all(self, data: &[u8]) -> Result<Self, WriteError>
-        ensures { tried self result ≡ write_of 7 self «data».now }
+    // The state as one that may take the data, or why it does not.
+    fn ready_for(&self, data: &[u8]) -> Result<Sound<'_>, WriteError>
+        ensures { MatchResult result
+            (λ h. (h.state.now ≡ self.now) × (sofar 7 self.now + length «data».now ≤ most))
+            (λ e. refused self.now e ≡ write_of 7 self.now «data».now) }
     {
         let h = self.checked()?;
         let room = h.room();
         if room < data.len() as u64 {
             return Err(WriteError::TooLong(room));
         }
-        Ok(h.with_bytes(data))
+        Ok(h)
     }
 
-    // The same state, known to be sound.
-    fn checked(self) -> Result<Sound, NotSound>
-        ensures { MatchResult result (λ h. h.state ≡ self) (λ _. sound 7 self ≡ false) }
+    // The state as a sound one.
+    fn checked(&self) -> Result<Sound<'_>, NotSound>
+        ensures { MatchResult result (λ h. h.state.now ≡ self.now) (λ _. sound 7 self.now ≡ false) }
     {
         if is_sound(self) {
             Ok(Sound { state: self })
@@ -171,8 +177,8 @@ fn blank() -> Buffer
 }
 
 // Whether a state may be gone on from.
-fn is_sound(h: RapidStreamHasher) -> bool
-    ensures { result ≡ sound 7 h }
+fn is_sound(h: &RapidStreamHasher) -> bool
+    ensures { result ≡ sound 7 h.now }
 {
     is_sized(h.count, h.waiting) && is_in_order(h)
 }
@@ -187,68 +193,70 @@ fn is_sized(count: u64, waiting: usize) -> bool
 }
 
 // Whether nothing stands behind the bytes that wait, and the state is begun as it must be.
-fn is_in_order(h: RapidStreamHasher) -> bool
-    requires { h.waiting ≤ 112 }
-    ensures { result ≡ pick (all_are 0 (drop (16 + h.waiting) h.buffer)) (begun h) false }
+fn is_in_order(h: &RapidStreamHasher) -> bool
+    requires { h.now.waiting ≤ 112 }
+    ensures { result ≡ pick (all_are 0 (drop (16 + h.now.waiting) h.now.buffer)) (begun h.now) false }
 {
-    is_clear_after(h.buffer, h.waiting) && is_begun(h)
+    is_clear_after(&h.buffer, h.waiting) && is_begun(h)
 }
 
 // Whether before the first chunk all lanes are the seed and nothing stands before the bytes that wait, and whether
 // after it at least one byte waits.
-fn is_begun(h: RapidStreamHasher) -> bool
-    ensures { result ≡ begun h }
+fn is_begun(h: &RapidStreamHasher) -> bool
+    ensures { result ≡ begun h.now }
 {
     if 0 < h.count {
         1 <= h.waiting
     } else {
-        lanes_are(h.lanes, h.settings.secrets.seed) && is_clear_before(h.buffer)
+        lanes_are(&h.lanes, h.settings.secrets.seed) && is_clear_before(&h.buffer)
     }
 }
 
 // Whether nothing stands behind the bytes that wait.
-fn is_clear_after(buffer: Buffer, waiting: usize) -> bool
+fn is_clear_after(buffer: &Buffer, waiting: usize) -> bool
     requires { waiting ≤ 112 }
-    ensures { result ≡ all_are 0 (drop (16 + waiting) buffer) }
+    ensures { result ≡ all_are 0 (drop (16 + waiting) buffer.now) }
 {
     all_zero(&buffer[CHUNK_PREV + waiting..])
 }
 
 // Whether nothing stands before them.
-fn is_clear_before(buffer: Buffer) -> bool
-    ensures { result ≡ all_are 0 (take 16 buffer) }
+fn is_clear_before(buffer: &Buffer) -> bool
+    ensures { result ≡ all_are 0 (take 16 buffer.now) }
 {
     all_zero(&buffer[..CHUNK_PREV])
 }
 
 // Whether all lanes are one number.
-fn lanes_are(lanes: [u64; 7], seed: u64) -> bool
-    ensures { result ≡ list_all (λ lane. lane == seed) lanes }
+fn lanes_are(lanes: &[u64; 7], seed: u64) -> bool
+    ensures { result ≡ list_all (λ lane. lane == seed) lanes.now }
 {
     lanes.iter().all(|lane| *lane == seed)
 }
 
-// A sound state: one that may be gone on from. With it, two bounds that soundness tells.
+// A sound state, lent: one that may be gone on from. With it, how long its buffer is, and two bounds that soundness
+// tells. Lent and not held, since a copy of the state in and out of each call took half as long again for a short write.
 #[derive(Clone, Copy)]
-struct Sound {
-    state: RapidStreamHasher,
-    ghost is_sound: { sound 7 state ≡ true },
-    ghost within: { state.waiting ≤ 112 },
-    ghost short: { 112 * state.count + state.waiting ≤ most },
+struct Sound<'a> {
+    state: &'a RapidStreamHasher,
+    ghost is_sound: { sound 7 state.now ≡ true },
+    ghost whole: { length state.now.buffer ≡ 128 },
+    ghost within: { state.now.waiting ≤ 112 },
+    ghost short: { 112 * state.now.count + state.now.waiting ≤ most },
 }
 
-impl Sound {
+impl<'a> Sound<'a> {
     // How many bytes more the stream may take.
     fn room(self) -> u64
-        ensures { result ≡ most - sofar 7 self.state }
+        ensures { result ≡ most - sofar 7 self.entry.state.now }
     {
         u64::MAX - (CHUNK_SIZE as u64 * self.state.count + self.state.waiting as u64)
     }
 
     // All bytes taken: while they fit they only wait.
     fn with_bytes(self, data: &[u8]) -> RapidStreamHasher
-        requires { sofar 7 self.state + length «data».now ≤ most }
-        ensures { result ≡ taken 7 self.state «data».now }
+        requires { sofar 7 self.state.now + length «data».now ≤ most }
+        ensures { result ≡ taken 7 self.entry.state.now «data».now }
     {
         let m = self.state.waiting;
         if data.len() <= CHUNK_SIZE - m {
@@ -260,22 +268,22 @@ impl Sound {
 
     // The bytes come to those that wait, in the place of zeros.
     fn waited(self, data: &[u8]) -> RapidStreamHasher
-        requires { self.state.waiting + length «data».now ≤ 112 }
-        ensures { result ≡ taken 7 self.state «data».now }
+        requires { self.state.now.waiting + length «data».now ≤ 112 }
+        ensures { result ≡ taken 7 self.entry.state.now «data».now }
     {
         let h = self.state;
         RapidStreamHasher {
             waiting: h.waiting + data.len(),
             buffer: put(h.buffer, CHUNK_PREV + h.waiting, data),
-            ..h
+            ..*h
         }
     }
 
     // More bytes than fit. Where none waits, the data's own chunks are the first; else the waiting chunk is filled up
     // and mixed, and the data goes on from there.
     fn write_inner(self, data: &[u8]) -> RapidStreamHasher
-        requires { (112 < self.state.waiting + length «data».now) × (sofar 7 self.state + length «data».now ≤ most) }
-        ensures { result ≡ taken 7 self.state «data».now }
+        requires { (112 < self.state.now.waiting + length «data».now) × (sofar 7 self.state.now + length «data».now ≤ most) }
+        ensures { result ≡ taken 7 self.entry.state.now «data».now }
     {
         let h = self.state;
         let m = h.waiting;
@@ -302,8 +310,8 @@ impl Sound {
 
     // The hash: while no chunk is mixed, that of the bytes that wait.
     fn hash(self) -> u64
-        ensures { result ≡ stream_hash 7 self.state.settings.avalanche self.state.settings.protected
-            self.state.settings.secrets (view self.state) }
+        ensures { result ≡ stream_hash 7 self.entry.state.now.settings.avalanche self.entry.state.now.settings.protected
+            self.entry.state.now.settings.secrets (view self.entry.state.now) }
     {
         let h = self.state;
         let m = h.waiting;

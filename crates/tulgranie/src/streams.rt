@@ -23,6 +23,7 @@ pub struct StreamEnded {
     pub count: u64,
 }
 
+// What a write says, as a number and the room.
 impl From<Result<(), WriteError>> for StreamWrote {
     ghost from_gives = { λ outcome w. said_by w ≡ said outcome };
 
@@ -35,6 +36,7 @@ impl From<Result<(), WriteError>> for StreamWrote {
     }
 }
 
+// What finish finds, as a number, the hash and the count.
 impl From<Result<Finished, NotSound>> for StreamEnded {
     ghost from_gives = { λ found e. ended_of e ≡ ended found };
 

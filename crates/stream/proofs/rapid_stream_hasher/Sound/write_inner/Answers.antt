@@ -6,13 +6,11 @@ use Rattle.stream.proofs.rapid_stream_hasher.Sound.write_inner.Goals as goal
 pub returns-then-m-eq0 : goal.returns-then-m-eq0
 returns-then-m-eq0 c =
     let h = c.args.self in
-    let n : length h.state.buffer ≡ 128 = search rules in
-    none_waits h.state n h.is_sound c.args.«data».now c.if-m-eq0.true c.from_chunk_end.ensures
+    none_waits h.state.now h.whole h.is_sound c.args.«data».now c.if-m-eq0.true c.from_chunk_end.ensures
 
 pub returns : goal.returns
 returns c =
     let h = c.args.self in
-    let n : length h.state.buffer ≡ 128 = search rules in
     let full : length c.put-full.result ≡ 128 = search rules in
-    inner_filled h.state n h.is_sound c.args.«data».now c.put-full.result c.requires.0
+    inner_filled h.state.now h.whole h.is_sound c.args.«data».now c.put-full.result c.requires.0
     c.put-full.ensures full c.mix_first-next.ensures c.from_chunk_end-2.ensures
