@@ -1,5 +1,6 @@
-// Whole chunks into lanes. The three sizes differ in their number of lanes alone, which is a const parameter, as is whether the
-// multiply is protected: the compiler unrolls the lane loop, keeps the lanes in registers and has no flag to test there.
+// Whole chunks into lanes. The three sizes differ in their number of lanes alone, which is a const parameter, as is
+// whether the multiply is protected: the compiler unrolls the lane loop, keeps the lanes in registers and has no flag to
+// test there. A place is counted beside the chunks, since a stream asks how far they reach.
 ghost use Rattle.std.specs.Prelude.{◌≡◌, ◌+◌, ◌-◌, ◌*◌, ◌<◌, ◌≤◌, length, take};
 ghost use Rattle.rapidhash.specs.Hash.{lanes_of, mix_pair, chunk_step, first_of, mixed_of, joined};
 
