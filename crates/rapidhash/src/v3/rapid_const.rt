@@ -49,7 +49,13 @@ pub fn rapidhash_v3_inline(
 ) -> u64
     ensures { result ≡ hash_of 7 avalanche protected secrets «data».now }
 {
-    rapidhash_core::<7>(data, secrets, avalanche, compact, protected)
+    Hasher::<7> {
+        secrets,
+        avalanche,
+        compact,
+        protected,
+    }
+    .rapidhash_core(data)
 }
 
 // The hash of five lanes. Its answers are others than the full hash's from 81 bytes on.
@@ -61,7 +67,13 @@ pub fn rapidhash_v3_micro_inline(
 ) -> u64
     ensures { result ≡ hash_of 5 avalanche protected secrets «data».now }
 {
-    rapidhash_core::<5>(data, secrets, avalanche, true, protected)
+    Hasher::<5> {
+        secrets,
+        avalanche,
+        compact: true,
+        protected,
+    }
+    .rapidhash_core(data)
 }
 
 // The hash of three lanes. Its answers are others than the full hash's from 49 bytes on.
@@ -73,108 +85,102 @@ pub fn rapidhash_v3_nano_inline(
 ) -> u64
     ensures { result ≡ hash_of 3 avalanche protected secrets «data».now }
 {
-    rapidhash_core::<3>(data, secrets, avalanche, true, protected)
+    Hasher::<3> {
+        secrets,
+        avalanche,
+        compact: true,
+        protected,
+    }
+    .rapidhash_core(data)
 }
 
-// The hash of L lanes with every flag.
-fn rapidhash_core<const L: usize>(
-    data: &[u8],
+// How a message is hashed in L lanes: seed and secrets, and every flag.
+#[derive(Clone, Copy)]
+struct Hasher<const L: usize> {
     secrets: RapidSecrets,
     avalanche: bool,
     compact: bool,
     protected: bool,
-) -> u64
-    requires { (0 < L) × (L ≤ 7) }
-    ensures { result ≡ hash_of L avalanche protected secrets «data».now }
-{
-    let e = ends_by_length::<L>(data, secrets, compact, protected);
-    let s = secrets.secrets;
-    last_step(e, s, avalanche, protected)
+    ghost some: { 0 < L },
+    ghost few: { L ≤ 7 },
 }
 
-// The length class decides which bytes are read and whether the length goes into the seed.
-fn ends_by_length<const L: usize>(
-    data: &[u8],
-    secrets: RapidSecrets,
-    compact: bool,
-    protected: bool,
-) -> Ends
-    requires { (0 < L) × (L ≤ 7) }
-    ensures { result ≡ ends_of L protected secrets «data».now }
-{
-    let n = data.len();
-    let r = n as u64;
-    let seed = secrets.seed;
-    match n {
-        0 => {
-            let a = 0;
-            let b = 0;
-            Ends { a, b, seed, r }
-        }
-        1..=3 => {
-            let a = u64::from(data[0]) << 45 | u64::from(data[n - 1]);
-            let b = u64::from(data[n / 2]);
-            Ends { a, b, seed, r }
-        }
-        4..=7 => {
-            let a = word4(data, 0);
-            let b = word4(data, n - 4);
-            let seed = seed ^ r;
-            Ends { a, b, seed, r }
-        }
-        8..=16 => {
-            let a = word8(data, 0);
-            let b = word8(data, n - 8);
-            let seed = seed ^ r;
-            Ends { a, b, seed, r }
-        }
-        _ => rapidhash_core_cold::<L>(data, secrets, compact, protected),
+impl<const L: usize> Hasher<L> {
+    // The hash of a message.
+    fn rapidhash_core(&self, data: &[u8]) -> u64
+        ensures { result ≡ hash_of L self.now.avalanche self.now.protected self.now.secrets «data».now }
+    {
+        let e = self.ends_by_length(data);
+        last_step(e, self.secrets.secrets, self.avalanche, self.protected)
     }
-}
 
-// More than 16 bytes: whole chunks, then the tail, then the message's last two words.
-fn rapidhash_core_cold<const L: usize>(
-    data: &[u8],
-    secrets: RapidSecrets,
-    compact: bool,
-    protected: bool,
-) -> Ends
-    requires { (0 < L) × (L ≤ 7) × (16 < length «data».now) }
-    ensures { result ≡ long_ends L protected secrets «data».now }
-{
-    let n = data.len();
-    let s = secrets.secrets;
-    let q = after_chunks::<L>(data, secrets, compact, protected);
-    let at = q.at;
-    let x = tail_steps(&data[at..], s[1], s[2], q.seed, protected);
-    let r = (n - at) as u64;
-    Ends {
-        a: word8(data, n - 16) ^ r,
-        b: word8(data, n - 8),
-        seed: x,
-        r,
+    // The length class decides which bytes are read and whether the length goes into the seed.
+    fn ends_by_length(&self, data: &[u8]) -> Ends
+        ensures { result ≡ ends_of L self.now.protected self.now.secrets «data».now }
+    {
+        let n = data.len();
+        let r = n as u64;
+        let seed = self.secrets.seed;
+        match n {
+            0 => {
+                let a = 0;
+                let b = 0;
+                Ends { a, b, seed, r }
+            }
+            1..=3 => {
+                let a = u64::from(data[0]) << 45 | u64::from(data[n - 1]);
+                let b = u64::from(data[n / 2]);
+                Ends { a, b, seed, r }
+            }
+            4..=7 => {
+                let a = word4(data, 0);
+                let b = word4(data, n - 4);
+                let seed = seed ^ r;
+                Ends { a, b, seed, r }
+            }
+            8..=16 => {
+                let a = word8(data, 0);
+                let b = word8(data, n - 8);
+                let seed = seed ^ r;
+                Ends { a, b, seed, r }
+            }
+            _ => self.rapidhash_core_cold(data),
+        }
     }
-}
 
-// The chunks of a whole message. Up to one chunk none is mixed, and the seed is the caller's.
-fn after_chunks<const L: usize>(
-    data: &[u8],
-    secrets: RapidSecrets,
-    compact: bool,
-    protected: bool,
-) -> Reached
-    requires { (0 < L) × (L ≤ 7) }
-    ensures { result ≡ reached_of L protected secrets «data».now }
-{
-    let seed = secrets.seed;
-    if data.len() <= 16 * L {
-        return Reached { seed, at: 0 };
+    // More than 16 bytes: whole chunks, then the tail, then the message's last two words.
+    fn rapidhash_core_cold(&self, data: &[u8]) -> Ends
+        requires { 16 < length «data».now }
+        ensures { result ≡ long_ends L self.now.protected self.now.secrets «data».now }
+    {
+        let n = data.len();
+        let s = self.secrets.secrets;
+        let q = self.after_chunks(data);
+        let at = q.at;
+        let x = tail_steps(&data[at..], s[1], s[2], q.seed, self.protected);
+        let r = (n - at) as u64;
+        Ends {
+            a: word8(data, n - 16) ^ r,
+            b: word8(data, n - 8),
+            seed: x,
+            r,
+        }
     }
-    let s = secrets.secrets;
-    let m = all_chunks::<L>(data, s, [seed; 7], compact, protected);
-    Reached {
-        seed: joined_lanes::<L>(m.lanes),
-        at: m.at,
+
+    // The chunks of a whole message. Up to one chunk none is mixed, and the seed is the caller's.
+    fn after_chunks(&self, data: &[u8]) -> Reached
+        ensures { result ≡ reached_of L self.now.protected self.now.secrets «data».now }
+    {
+        let seed = self.secrets.seed;
+        if data.len() <= 16 * L {
+            return Reached { seed, at: 0 };
+        }
+        let s = self.secrets.secrets;
+        let m = all_chunks::<L>(data, s, [seed; 7], self.compact, self.protected);
+        Reached {
+            seed: joined_lanes::<L>(m.lanes),
+            at: m.at,
+        }
     }
 }
 

@@ -1,7 +1,7 @@
 -- The place that the chunks reach is within the message. Assumes nothing.
 use Rattle.rapidhash.proofs.Classes.{reached_within, long_ends_lem}
 use Rattle.std.proofs.Common.{rules}
-use Rattle.rapidhash.proofs.v3.rapid_const.rapidhash_core_cold.Goals as goal
+use Rattle.rapidhash.proofs.v3.rapid_const.Hasher.rapidhash_core_cold.Goals as goal
 
 pub slice_bounds-tail_steps-count : goal.slice_bounds-tail_steps-count
 slice_bounds-tail_steps-count g c = search reached_within

@@ -1,7 +1,7 @@
 -- The test of the code is the test of the rule. Assumes nothing.
 use Rattle.std.proofs.Common.{arith}
 use Rattle.rapidhash.proofs.Classes.{reached_none, reached_some}
-use Rattle.rapidhash.proofs.v3.rapid_const.after_chunks.Goals as goal
+use Rattle.rapidhash.proofs.v3.rapid_const.Hasher.after_chunks.Goals as goal
 
 pub returns-then-data : goal.returns-then-data
 returns-then-data g c = reached_none _ _ _ _ (omega arith)
