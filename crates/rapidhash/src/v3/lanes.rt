@@ -34,77 +34,95 @@ pub fn mix_chunks(
     ensures { result ≡ mixed_of (lanes_of size) protected secrets lanes «data».now }
 {
     match size {
-        Size::Full => all_chunks::<7>(data, secrets, lanes, compact, protected),
-        Size::Micro => all_chunks::<5>(data, secrets, lanes, compact, protected),
-        Size::Nano => all_chunks::<3>(data, secrets, lanes, compact, protected),
+        Size::Full => Steps::<7> { secrets, protected }.all_chunks(data, lanes, compact),
+        Size::Micro => Steps::<5> { secrets, protected }.all_chunks(data, lanes, compact),
+        Size::Nano => Steps::<3> { secrets, protected }.all_chunks(data, lanes, compact),
     }
 }
 
-// The same for any number of lanes.
-pub(crate) fn all_chunks<const L: usize>(
-    data: &[u8],
-    secrets: [u64; 7],
-    lanes: [u64; 7],
-    compact: bool,
-    protected: bool,
-) -> Mixed
-    requires { (0 < L) × (L ≤ 7) }
-    ensures { result ≡ mixed_of L protected secrets lanes «data».now }
-{
-    match (compact, protected) {
-        (true, true) => chunk_by_chunk::<L, true>(data, secrets, lanes),
-        (true, false) => chunk_by_chunk::<L, false>(data, secrets, lanes),
-        (false, true) => two_by_two::<L, true>(data, secrets, lanes),
-        (false, false) => two_by_two::<L, false>(data, secrets, lanes),
-    }
+// How chunks go into L lanes: with which secrets, and whether the multiply is protected.
+#[derive(Clone, Copy)]
+pub(crate) struct Steps<const L: usize> {
+    pub(crate) secrets: [u64; 7],
+    pub(crate) protected: bool,
+    ghost some: { 0 < L },
+    ghost few: { L ≤ 7 },
 }
 
-// The compact loop: a chunk a turn. A chunk that a byte follows is one of all bytes but the last.
-fn chunk_by_chunk<const L: usize, const PROTECTED: bool>(
-    data: &[u8],
-    secrets: [u64; 7],
-    start: [u64; 7],
-) -> Mixed
-    requires { (0 < L) × (L ≤ 7) }
-    ensures { result ≡ mixed_of L PROTECTED secrets start «data».now }
-{
-    let mut lanes = start;
-    let mut at = 0;
-    for chunk in front(data).chunks_exact(16 * L) {
-        let next = chunk_step::<L, PROTECTED>(chunk, secrets, lanes);
-        lanes = next;
-        at += 16 * L;
+impl<const L: usize> Steps<L> {
+    // Every chunk that at least one byte follows, into the given lanes.
+    pub(crate) fn all_chunks(&self, data: &[u8], lanes: [u64; 7], compact: bool) -> Mixed
+        ensures { result ≡ mixed_of L self.now.protected self.now.secrets lanes «data».now }
+    {
+        match (compact, self.protected) {
+            (true, true) => self.chunk_by_chunk::<true>(data, lanes),
+            (true, false) => self.chunk_by_chunk::<false>(data, lanes),
+            (false, true) => self.two_by_two::<true>(data, lanes),
+            (false, false) => self.two_by_two::<false>(data, lanes),
+        }
     }
-    Mixed { lanes, at }
-}
 
-// The loop that is not compact: two chunks a turn, and at the end one more where one is left.
-fn two_by_two<const L: usize, const PROTECTED: bool>(
-    data: &[u8],
-    secrets: [u64; 7],
-    start: [u64; 7],
-) -> Mixed
-    requires { (0 < L) × (L ≤ 7) }
-    ensures { result ≡ mixed_of L PROTECTED secrets start «data».now }
-{
-    let mut lanes = start;
-    let mut at = 0;
-    let front = front(data);
-    for pair in front.chunks_exact(32 * L) {
-        let (first, second) = pair.split_at(16 * L);
-        let half = chunk_step::<L, PROTECTED>(first, secrets, lanes);
-        let next = chunk_step::<L, PROTECTED>(second, secrets, half);
-        lanes = next;
-        at += 32 * L;
+    // The first chunk of the bytes, if there is one.
+    fn first_chunk(&self, bytes: &[u8], lanes: [u64; 7]) -> [u64; 7]
+        ensures { result ≡ first_of L self.now.protected self.now.secrets lanes bytes.now }
+    {
+        match bytes.get(..16 * L) {
+            Some(chunk) if self.protected => self.chunk_step::<true>(chunk, lanes),
+            Some(chunk) => self.chunk_step::<false>(chunk, lanes),
+            None => lanes,
+        }
     }
-    if let Some(chunk) = front[at..].get(..16 * L) {
-        let next = chunk_step::<L, PROTECTED>(chunk, secrets, lanes);
-        return Mixed {
-            lanes: next,
-            at: at + 16 * L,
-        };
+
+    // The compact loop: a chunk a turn. A chunk that a byte follows is one of all bytes but the last.
+    fn chunk_by_chunk<const PROTECTED: bool>(&self, data: &[u8], start: [u64; 7]) -> Mixed
+        ensures { result ≡ mixed_of L PROTECTED self.now.secrets start «data».now }
+    {
+        let mut lanes = start;
+        let mut at = 0;
+        for chunk in front(data).chunks_exact(16 * L) {
+            let next = self.chunk_step::<PROTECTED>(chunk, lanes);
+            lanes = next;
+            at += 16 * L;
+        }
+        Mixed { lanes, at }
     }
-    Mixed { lanes, at }
+
+    // The loop that is not compact: two chunks a turn, and at the end one more where one is left.
+    fn two_by_two<const PROTECTED: bool>(&self, data: &[u8], start: [u64; 7]) -> Mixed
+        ensures { result ≡ mixed_of L PROTECTED self.now.secrets start «data».now }
+    {
+        let mut lanes = start;
+        let mut at = 0;
+        let front = front(data);
+        for pair in front.chunks_exact(32 * L) {
+            let (first, second) = pair.split_at(16 * L);
+            let half = self.chunk_step::<PROTECTED>(first, lanes);
+            let next = self.chunk_step::<PROTECTED>(second, half);
+            lanes = next;
+            at += 32 * L;
+        }
+        if let Some(chunk) = front[at..].get(..16 * L) {
+            let next = self.chunk_step::<PROTECTED>(chunk, lanes);
+            return Mixed {
+                lanes: next,
+                at: at + 16 * L,
+            };
+        }
+        Mixed { lanes, at }
+    }
+
+    // One chunk into the first L lanes. In line, so that the lanes stay in registers from chunk to chunk.
+    #[inline(always)]
+    fn chunk_step<const PROTECTED: bool>(&self, chunk: &[u8], start: [u64; 7]) -> [u64; 7]
+        requires { 16 * L ≤ length chunk.now }
+        ensures { result ≡ chunk_step L PROTECTED self.now.secrets chunk.now start }
+    {
+        let mut lanes = start;
+        for j in 0..L {
+            lanes[j] = mix_pair(chunk, 16 * j, self.secrets[j], lanes[j], PROTECTED);
+        }
+        lanes
+    }
 }
 
 // All bytes but the last.
@@ -128,44 +146,10 @@ pub fn mix_first(
     ensures { result ≡ first_of (lanes_of size) protected secrets lanes bytes.now }
 {
     match size {
-        Size::Full => first_chunk::<7>(bytes, secrets, lanes, protected),
-        Size::Micro => first_chunk::<5>(bytes, secrets, lanes, protected),
-        Size::Nano => first_chunk::<3>(bytes, secrets, lanes, protected),
+        Size::Full => Steps::<7> { secrets, protected }.first_chunk(bytes, lanes),
+        Size::Micro => Steps::<5> { secrets, protected }.first_chunk(bytes, lanes),
+        Size::Nano => Steps::<3> { secrets, protected }.first_chunk(bytes, lanes),
     }
-}
-
-// The same for any number of lanes.
-fn first_chunk<const L: usize>(
-    bytes: &[u8],
-    secrets: [u64; 7],
-    lanes: [u64; 7],
-    protected: bool,
-) -> [u64; 7]
-    requires { L ≤ 7 }
-    ensures { result ≡ first_of L protected secrets lanes bytes.now }
-{
-    match bytes.get(..16 * L) {
-        Some(chunk) if protected => chunk_step::<L, true>(chunk, secrets, lanes),
-        Some(chunk) => chunk_step::<L, false>(chunk, secrets, lanes),
-        None => lanes,
-    }
-}
-
-// One chunk into the first L lanes. In line, so that the lanes stay in registers from chunk to chunk.
-#[inline(always)]
-fn chunk_step<const L: usize, const PROTECTED: bool>(
-    chunk: &[u8],
-    secrets: [u64; 7],
-    start: [u64; 7],
-) -> [u64; 7]
-    requires { (L ≤ 7) × (16 * L ≤ length chunk.now) }
-    ensures { result ≡ chunk_step L PROTECTED secrets chunk.now start }
-{
-    let mut lanes = start;
-    for j in 0..L {
-        lanes[j] = mix_pair(chunk, 16 * j, secrets[j], lanes[j], PROTECTED);
-    }
-    lanes
 }
 
 // Two words at a place, with a secret, into x.
