@@ -67,7 +67,7 @@ fn cuts(record: &[u8], secrets: RapidSecrets, wanted: u64) -> usize {
 }
 
 // The hash of the values of tags 1 to 4 where each is written in two parts, so that one of them is cut at a place
-// inside it, be that inside a letter.
+// inside it, be that inside a letter. A loop, since the stream and what is left of the place change together.
 fn cut_at(record: &[u8], secrets: RapidSecrets, at: usize) -> Option<u64> {
     let mut stream = RapidStreamHasher::new(secrets, true, false);
     let mut left = at;

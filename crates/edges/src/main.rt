@@ -7,7 +7,8 @@ use rapidhash::util::read::{read_u32, read_u64};
 use secrets::v3::seed::RapidSecrets;
 use std::{fmt, io};
 
-// A seed and the seven secrets.
+// A seed and the seven secrets. (As in `answers`, with other spaces: one for both would be a library's, and that would
+// have to promise what it prints.)
 #[derive(Drop)]
 struct Words(RapidSecrets);
 

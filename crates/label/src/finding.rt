@@ -1,4 +1,5 @@
-// Finding in a label record: the first tag of a lent list that the record has, and that field's own bytes.
+// Finding in a label record: the first tag of a lent list that the record has, and that field's own bytes. Record and
+// list stay two parameters: each has a lifetime of its own, and a part has the record's.
 ghost use Rattle.std.specs.Prelude.{◌≡◌, ◌+◌, ◌≤◌, length};
 ghost use Rattle.std.specs.Result.{result_ok};
 ghost use Rattle.label.specs.Label.{walk_of, first_listed, find_of, start_of, length_of, Part};

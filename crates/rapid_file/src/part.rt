@@ -27,7 +27,7 @@ impl From<WriteError> for ReadFailed {
     }
 }
 
-// The bytes of a part, and how many came.
+// The bytes of a part, and how many came. One array for all parts, so that the program takes no memory from a heap.
 #[derive(Drop)]
 pub(crate) struct Part {
     bytes: [u8; 8192],
@@ -56,7 +56,8 @@ impl Part {
         self.count == 8192
     }
 
-    // Reads anew until the part is full, the input ends or a read fails.
+    // Reads anew until the part is full, the input ends or a read fails. How many bytes a read brings is the reader's, so
+    // there is no range to go over.
     pub(crate) fn fill<R: Read>(&mut self, input: &mut R) -> Result<(), ReadFailed>
         ensures bytes { Consumes (R.remaining input.old) (R.remaining input.new) (part_bytes self.new) }
         ensures end { OnOk result (self.new.count < 8192 → IsAtEnd (R.remaining input.new)) }

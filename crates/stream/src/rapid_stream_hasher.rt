@@ -35,7 +35,8 @@ pub struct Settings {
 }
 
 // The state between two calls: the lanes and the number of chunks that they have taken; the bytes that wait, from
-// place 16 of the buffer on; before them the 16 that end the previous chunk.
+// place 16 of the buffer on; before them the 16 that end the previous chunk. A buffer with a number beside it, and no
+// slice or list: C holds the state by its fields, and no stream takes memory from a heap.
 #[repr(C)]
 #[derive(Clone, Copy)]
 pub struct RapidStreamHasher {

@@ -12,9 +12,9 @@ use rapidhash::v3::rapid_const::{
 };
 use secrets::v3::seed::RapidSecrets;
 
-// A number of the table, and a value.
+// A number of the table, and a value. (Numbers stand for cases here and below, since C has no enum with values.)
 #[repr(C)]
-#[derive(Clone, Copy)]
+#[derive(Clone, Copy, Debug, PartialEq, Eq)]
 pub struct Value {
     pub number: u64,
     pub value: u64,
@@ -97,14 +97,14 @@ pub fn tulgranie_full(
     rapidhash_v3_inline(data, secrets, avalanche, compact, protected)
 }
 
-// The micro hash.
+// The micro hash. (A function for each size: C calls it by this name.)
 pub fn tulgranie_micro(data: &[u8], secrets: RapidSecrets, avalanche: bool, protected: bool) -> u64
     ensures { result ≡ hash_of 5 avalanche protected secrets «data».now }
 {
     rapidhash_v3_micro_inline(data, secrets, avalanche, protected)
 }
 
-// The nano hash.
+// The nano hash. (Likewise.)
 pub fn tulgranie_nano(data: &[u8], secrets: RapidSecrets, avalanche: bool, protected: bool) -> u64
     ensures { result ≡ hash_of 3 avalanche protected secrets «data».now }
 {

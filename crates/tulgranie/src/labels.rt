@@ -10,7 +10,7 @@ use label::fingerprint::fingerprint;
 use label::reading::read;
 use secrets::v3::seed::RapidSecrets;
 
-// What a call about a record answers: a number of the table, a place, a tag, where a value starts and how long it is, and
+// What a call about a record answers: a number of the table, for C, a place, a tag, where a value starts and how long it is, and
 // a fingerprint. What a call does not give is 0.
 #[repr(C)]
 #[derive(Clone, Copy, Debug, Default, PartialEq, Eq)]

@@ -6,17 +6,17 @@ ghost use Rattle.tulgranie.specs.Answers.{said_by, wrote_with, ended_of};
 use secrets::v3::seed::RapidSecrets;
 use stream::rapid_stream_hasher::{Finished, NotSound, RapidStreamHasher, WriteError};
 
-// What a write says: a number of the table, and the room left beside number 2.
+// What a write says: a number of the table, for C, and the room left beside number 2.
 #[repr(C)]
-#[derive(Clone, Copy)]
+#[derive(Clone, Copy, Debug, PartialEq, Eq)]
 pub struct StreamWrote {
     pub number: u64,
     pub room: u64,
 }
 
-// What finish finds: a number of the table, the hash and the number of chunks mixed.
+// What finish finds: a number of the table, for C, the hash and the number of chunks mixed.
 #[repr(C)]
-#[derive(Clone, Copy)]
+#[derive(Clone, Copy, Debug, PartialEq, Eq)]
 pub struct StreamEnded {
     pub number: u64,
     pub hash: u64,

@@ -15,7 +15,7 @@ pub enum Size {
     Nano,
 }
 
-// Lanes that have taken whole chunks, and the place that these reach.
+// Lanes that have taken whole chunks, and the place that these reach, from which a stream's bytes wait.
 #[derive(Clone, Copy)]
 pub struct Mixed {
     pub lanes: [u64; 7],
@@ -111,7 +111,8 @@ impl<const L: usize> Steps<L> {
         Mixed { lanes, at }
     }
 
-    // One chunk into the first L lanes. In line, so that the lanes stay in registers from chunk to chunk.
+    // One chunk into the first L lanes. In line, so that the lanes stay in registers from chunk to chunk. By index, since
+    // a lane that `iter_mut` lends is known to no proof as the one at its place.
     #[inline(always)]
     fn chunk_step<const PROTECTED: bool>(&self, chunk: &[u8], start: [u64; 7]) -> [u64; 7]
         requires { 16 * L ≤ length chunk.now }

@@ -58,7 +58,8 @@ pub fn rapidhash_v3_inline(
     .rapidhash_core(data)
 }
 
-// The hash of five lanes. Its answers are others than the full hash's from 81 bytes on.
+// The hash of five lanes. Its answers are others than the full hash's from 81 bytes on. (Three functions for three sizes,
+// with a parameter for each flag: these are the Rust's names, and those that the library for C calls.)
 pub fn rapidhash_v3_micro_inline(
     data: &[u8],
     secrets: RapidSecrets,
