@@ -1,5 +1,6 @@
 // The stream hasher, as the Rust's v3/rapid_stream_hasher, by value: a state goes in and the next comes out.
-ghost use Rattle.std.specs.Prelude.{◌≡◌, true, false, [], ◌++◌, ◌+◌, ◌-◌, ◌*◌, ◌<◌, ◌≤◌, leb, length, take, drop, replicate, MatchResult, ◌==◌};
+ghost use Rattle.std.specs.Prelude.{◌≡◌, true, false, [], ◌++◌, ◌+◌, ◌-◌, ◌*◌, ◌<◌, ◌≤◌, leb, ◌==◌};
+ghost use Rattle.std.specs.Prelude.{length, take, drop, replicate, MatchResult};
 ghost use Rattle.std.specs.List.{list_all};
 ghost use Rattle.secrets.specs.Choice.{pick, all_are};
 ghost use Rattle.rapidhash.specs.Words.{word};
@@ -236,7 +237,8 @@ fn lanes_are(lanes: &[u64; 7], seed: u64) -> bool
 }
 
 // A sound state, lent: one that may be gone on from. With it, how long its buffer is, and two bounds that soundness
-// tells. Lent and not held, since a copy of the state in and out of each call took half as long again for a short write.
+// tells. Lent and not held, since with copies of the state in and out of each call a short write took half as long
+// again.
 #[derive(Clone, Copy)]
 struct Sound<'a> {
     state: &'a RapidStreamHasher,
@@ -283,7 +285,8 @@ impl<'a> Sound<'a> {
     // More bytes than fit. Where none waits, the data's own chunks are the first; else the waiting chunk is filled up
     // and mixed, and the data goes on from there.
     fn write_inner(self, data: &[u8]) -> RapidStreamHasher
-        requires { (112 < self.state.now.waiting + length «data».now) × (sofar 7 self.state.now + length «data».now ≤ most) }
+        requires { (112 < self.state.now.waiting + length «data».now)
+            × (sofar 7 self.state.now + length «data».now ≤ most) }
         ensures { result ≡ taken 7 self.entry.state.now «data».now }
     {
         let h = self.state;
