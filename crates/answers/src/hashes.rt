@@ -44,7 +44,7 @@ pub(crate) fn hash(alloc: Global, line: &[u8], size: Size) -> Result<String, All
     format!(in alloc; "{:016x}", hash_of(&bytes[..asked.length], &asked, size))
 }
 
-// The hash of bytes in a size.
+// The hash of bytes in a size, by the name that the Rust has for it.
 fn hash_of(bytes: &[u8], asked: &Asked, size: Size) -> u64 {
     let secrets = asked.secrets;
     let avalanche = asked.avalanche;

@@ -35,7 +35,7 @@ fn asks(line: &[u8]) -> bool {
     line.first().is_some_and(|byte| *byte != b'#')
 }
 
-// The answer to a request, by its first word.
+// The answer to a request, by its first word. (A match and no table of functions: each takes other words of the line.)
 fn answer(alloc: Global, line: &[u8]) -> Result<String, AllocError> {
     match word(line, 0) {
         b"full" => hash(alloc, line, Size::Full),
