@@ -55,10 +55,6 @@ module _ (p : Bool) (sec c l : List ℕ) where
       rw (add-one, h, e)
       (ap (λ (y : ℕ). set (chunk_step j p sec c l) j (mix_pair p c (16 * j) (get_or sec j 0) y)) (step_kept j j (omega arith)))
 
-  -- and all
-  pub step_all : {j n : ℕ} {m : List ℕ} → j ≤ n → n ≤ j → m ≡ chunk_step j p sec c l → m ≡ chunk_step n p sec c l
-  step_all = at_end (λ j. chunk_step j p sec c l)
-
 module _ (L : ℕ) (p : Bool) (sec l s : List ℕ) where
   -- no first chunk where the bytes are fewer than one
   pub first_none : length s < 16 * L → l ≡ first_of L p sec l s

@@ -7,7 +7,8 @@ ghost use Rattle.rapidhash.specs.Hash.{lanes_of, mix_pair, chunk_step, first_of,
 use crate::util::read::word8;
 use secrets::util::mix::rapid_mix;
 
-// Which of the three hashes: 7, 5 or 3 lanes.
+// Which of the three hashes: 7, 5 or 3 lanes. The public functions take it as an argument, since a const parameter would
+// need a `requires` there, and none has one.
 #[derive(Clone, Copy)]
 pub enum Size {
     Full,
