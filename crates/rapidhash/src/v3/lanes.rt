@@ -52,8 +52,8 @@ pub(crate) struct Steps<const L: usize> {
 
 impl<const L: usize> Steps<L> {
     // Every chunk that at least one byte follows, into the given lanes.
-    pub(crate) fn all_chunks(&self, data: &[u8], lanes: [u64; 7], compact: bool) -> Mixed
-        ensures { result ≡ mixed_of L self.now.protected self.now.secrets lanes «data».now }
+    pub(crate) fn all_chunks(self, data: &[u8], lanes: [u64; 7], compact: bool) -> Mixed
+        ensures { result ≡ mixed_of L self.entry.protected self.entry.secrets lanes «data».now }
     {
         match (compact, self.protected) {
             (true, true) => self.chunk_by_chunk::<true>(data, lanes),
@@ -64,24 +64,25 @@ impl<const L: usize> Steps<L> {
     }
 
     // The first chunk of the bytes, if there is one.
-    fn first_chunk(&self, bytes: &[u8], lanes: [u64; 7]) -> [u64; 7]
-        ensures { result ≡ first_of L self.now.protected self.now.secrets lanes bytes.now }
+    fn first_chunk(self, bytes: &[u8], lanes: [u64; 7]) -> [u64; 7]
+        ensures { result ≡ first_of L self.entry.protected self.entry.secrets lanes bytes.now }
     {
         match bytes.get(..16 * L) {
-            Some(chunk) if self.protected => self.chunk_step::<true>(chunk, lanes),
-            Some(chunk) => self.chunk_step::<false>(chunk, lanes),
+            Some(chunk) if self.protected => chunk_step::<L, true>(chunk, self.secrets, lanes),
+            Some(chunk) => chunk_step::<L, false>(chunk, self.secrets, lanes),
             None => lanes,
         }
     }
 
     // The compact loop: a chunk a turn. A chunk that a byte follows is one of all bytes but the last.
-    fn chunk_by_chunk<const PROTECTED: bool>(&self, data: &[u8], start: [u64; 7]) -> Mixed
-        ensures { result ≡ mixed_of L PROTECTED self.now.secrets start «data».now }
+    fn chunk_by_chunk<const PROTECTED: bool>(self, data: &[u8], start: [u64; 7]) -> Mixed
+        ensures { result ≡ mixed_of L PROTECTED self.entry.secrets start «data».now }
     {
+        let secrets = self.secrets;
         let mut lanes = start;
         let mut at = 0;
         for chunk in front(data).chunks_exact(16 * L) {
-            let next = self.chunk_step::<PROTECTED>(chunk, lanes);
+            let next = chunk_step::<L, PROTECTED>(chunk, secrets, lanes);
             lanes = next;
             at += 16 * L;
         }
@@ -89,41 +90,28 @@ impl<const L: usize> Steps<L> {
     }
 
     // The loop that is not compact: two chunks a turn, and at the end one more where one is left.
-    fn two_by_two<const PROTECTED: bool>(&self, data: &[u8], start: [u64; 7]) -> Mixed
-        ensures { result ≡ mixed_of L PROTECTED self.now.secrets start «data».now }
+    fn two_by_two<const PROTECTED: bool>(self, data: &[u8], start: [u64; 7]) -> Mixed
+        ensures { result ≡ mixed_of L PROTECTED self.entry.secrets start «data».now }
     {
+        let secrets = self.secrets;
         let mut lanes = start;
         let mut at = 0;
         let front = front(data);
         for pair in front.chunks_exact(32 * L) {
             let (first, second) = pair.split_at(16 * L);
-            let half = self.chunk_step::<PROTECTED>(first, lanes);
-            let next = self.chunk_step::<PROTECTED>(second, half);
+            let half = chunk_step::<L, PROTECTED>(first, secrets, lanes);
+            let next = chunk_step::<L, PROTECTED>(second, secrets, half);
             lanes = next;
             at += 32 * L;
         }
         if let Some(chunk) = front[at..].get(..16 * L) {
-            let next = self.chunk_step::<PROTECTED>(chunk, lanes);
+            let next = chunk_step::<L, PROTECTED>(chunk, secrets, lanes);
             return Mixed {
                 lanes: next,
                 at: at + 16 * L,
             };
         }
         Mixed { lanes, at }
-    }
-
-    // One chunk into the first L lanes. In line, so that the lanes stay in registers from chunk to chunk. By index, since
-    // a lane that `iter_mut` lends is known to no proof as the one at its place.
-    #[inline(always)]
-    fn chunk_step<const PROTECTED: bool>(&self, chunk: &[u8], start: [u64; 7]) -> [u64; 7]
-        requires { 16 * L ≤ length chunk.now }
-        ensures { result ≡ chunk_step L PROTECTED self.now.secrets chunk.now start }
-    {
-        let mut lanes = start;
-        for j in 0..L {
-            lanes[j] = mix_pair(chunk, 16 * j, self.secrets[j], lanes[j], PROTECTED);
-        }
-        lanes
     }
 }
 
@@ -152,6 +140,24 @@ pub fn mix_first(
         Size::Micro => Steps::<5> { secrets, protected }.first_chunk(bytes, lanes),
         Size::Nano => Steps::<3> { secrets, protected }.first_chunk(bytes, lanes),
     }
+}
+
+// One chunk into the first L lanes. In line, so that the lanes stay in registers from chunk to chunk. By index, since
+// a lane that `iter_mut` lends is known to no proof as the one at its place.
+#[inline(always)]
+fn chunk_step<const L: usize, const PROTECTED: bool>(
+    chunk: &[u8],
+    secrets: [u64; 7],
+    start: [u64; 7],
+) -> [u64; 7]
+    requires { (L ≤ 7) × (16 * L ≤ length chunk.now) }
+    ensures { result ≡ chunk_step L PROTECTED secrets chunk.now start }
+{
+    let mut lanes = start;
+    for j in 0..L {
+        lanes[j] = mix_pair(chunk, 16 * j, secrets[j], lanes[j], PROTECTED);
+    }
+    lanes
 }
 
 // Two words at a place, with a secret, into x.

@@ -108,16 +108,16 @@ struct Hasher<const L: usize> {
 
 impl<const L: usize> Hasher<L> {
     // The hash of a message.
-    fn rapidhash_core(&self, data: &[u8]) -> u64
-        ensures { result ≡ hash_of L self.now.avalanche self.now.protected self.now.secrets «data».now }
+    fn rapidhash_core(self, data: &[u8]) -> u64
+        ensures { result ≡ hash_of L self.entry.avalanche self.entry.protected self.entry.secrets «data».now }
     {
         let e = self.ends_by_length(data);
         last_step(e, self.secrets.secrets, self.avalanche, self.protected)
     }
 
     // The length class decides which bytes are read and whether the length goes into the seed.
-    fn ends_by_length(&self, data: &[u8]) -> Ends
-        ensures { result ≡ ends_of L self.now.protected self.now.secrets «data».now }
+    fn ends_by_length(self, data: &[u8]) -> Ends
+        ensures { result ≡ ends_of L self.entry.protected self.entry.secrets «data».now }
     {
         let n = data.len();
         let r = n as u64;
@@ -150,9 +150,9 @@ impl<const L: usize> Hasher<L> {
     }
 
     // More than 16 bytes: whole chunks, then the tail, then the message's last two words.
-    fn rapidhash_core_cold(&self, data: &[u8]) -> Ends
+    fn rapidhash_core_cold(self, data: &[u8]) -> Ends
         requires { 16 < length «data».now }
-        ensures { result ≡ long_ends L self.now.protected self.now.secrets «data».now }
+        ensures { result ≡ long_ends L self.entry.protected self.entry.secrets «data».now }
     {
         let n = data.len();
         let s = self.secrets.secrets;
@@ -169,15 +169,16 @@ impl<const L: usize> Hasher<L> {
     }
 
     // The chunks of a whole message. Up to one chunk none is mixed, and the seed is the caller's.
-    fn after_chunks(&self, data: &[u8]) -> Reached
-        ensures { result ≡ reached_of L self.now.protected self.now.secrets «data».now }
+    fn after_chunks(self, data: &[u8]) -> Reached
+        ensures { result ≡ reached_of L self.entry.protected self.entry.secrets «data».now }
     {
         let seed = self.secrets.seed;
         if data.len() <= 16 * L {
             return Reached { seed, at: 0 };
         }
+        let secrets = self.secrets.secrets;
         let steps = Steps::<L> {
-            secrets: self.secrets.secrets,
+            secrets,
             protected: self.protected,
         };
         let m = steps.all_chunks(data, [seed; 7], self.compact);

@@ -13,5 +13,5 @@ invariant-loop-chunk g l = record {
   size : chunks_exact_size l.chunk-iterator ≡ 16 * g.row.L;
   left : chunks_exact_rest l.chunk-iterator ≡ drop l.at (take (length l.fn.data - 1) l.fn.data);
   within : l.at ≤ length l.fn.data - 1;
-  ahead : mixed_of g.row.L (not (eqb g.row.PROTECTED 0)) l.self.secrets l.fn.start l.fn.data ≡ ahead g.row.L (not (eqb g.row.PROTECTED 0)) l.self.secrets l.fn.data l.at l.lanes;
+  ahead : mixed_of g.row.L (not (eqb g.row.PROTECTED 0)) l.secrets l.fn.start l.fn.data ≡ ahead g.row.L (not (eqb g.row.PROTECTED 0)) l.secrets l.fn.data l.at l.lanes;
 }

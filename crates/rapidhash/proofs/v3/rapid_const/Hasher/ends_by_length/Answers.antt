@@ -11,7 +11,7 @@ returns-in-1-to-3 g c =
     let a = c.args in
     let s = a.«data».now in
     let fits = c.type_inv.«data» in
-    class_bytes g.row.L a.self.now.protected a.self.now.secrets s (omega arith) (omega arith)
+    class_bytes g.row.L a.self.protected a.self.secrets s (omega arith) (omega arith)
     (c.from.ensures, omega (arith, fits 0)) (c.from-in-1-to-3.ensures, omega (arith, fits (length s - 1))) (c.from-b.ensures, omega (arith, fits (length s / 2)))
 
 pub returns-in-4-to-7 : goal.returns-in-4-to-7

@@ -2,7 +2,7 @@
 use Rattle.std.proofs.Common.{rules}
 use Rattle.rapidhash.specs.Hash.{chunk_step}
 use Rattle.rapidhash.proofs.Lanes.{step_more}
-use Rattle.rapidhash.proofs.v3.lanes.Steps.chunk_step.Goals as goal
+use Rattle.rapidhash.proofs.v3.lanes.chunk_step.Goals as goal
 
 pub loop-j-init : goal.loop-j-init
 unfolding chunk_step
