@@ -35,84 +35,78 @@ pub fn mix_chunks(
     ensures { result ≡ mixed_of (lanes_of size) protected secrets lanes «data».now }
 {
     match size {
-        Size::Full => Steps::<7> { secrets, protected }.all_chunks(data, lanes, compact),
-        Size::Micro => Steps::<5> { secrets, protected }.all_chunks(data, lanes, compact),
-        Size::Nano => Steps::<3> { secrets, protected }.all_chunks(data, lanes, compact),
+        Size::Full => all_chunks::<7>(data, secrets, lanes, compact, protected),
+        Size::Micro => all_chunks::<5>(data, secrets, lanes, compact, protected),
+        Size::Nano => all_chunks::<3>(data, secrets, lanes, compact, protected),
     }
 }
 
-// How chunks go into L lanes: with which secrets, and whether the multiply is protected.
-#[derive(Clone, Copy)]
-pub(crate) struct Steps<const L: usize> {
-    pub(crate) secrets: [u64; 7],
-    pub(crate) protected: bool,
-    ghost some: { 0 < L },
-    ghost few: { L ≤ 7 },
+// The same for any number of lanes. What these functions take and ask stays in each of them: held by a struct, by value
+// or lent, 60,000 bytes took 1.09 of the Rust's time and not 0.93.
+pub(crate) fn all_chunks<const L: usize>(
+    data: &[u8],
+    secrets: [u64; 7],
+    lanes: [u64; 7],
+    compact: bool,
+    protected: bool,
+) -> Mixed
+    requires { (0 < L) × (L ≤ 7) }
+    ensures { result ≡ mixed_of L protected secrets lanes «data».now }
+{
+    match (compact, protected) {
+        (true, true) => chunk_by_chunk::<L, true>(data, secrets, lanes),
+        (true, false) => chunk_by_chunk::<L, false>(data, secrets, lanes),
+        (false, true) => two_by_two::<L, true>(data, secrets, lanes),
+        (false, false) => two_by_two::<L, false>(data, secrets, lanes),
+    }
 }
 
-impl<const L: usize> Steps<L> {
-    // Every chunk that at least one byte follows, into the given lanes.
-    pub(crate) fn all_chunks(self, data: &[u8], lanes: [u64; 7], compact: bool) -> Mixed
-        ensures { result ≡ mixed_of L self.entry.protected self.entry.secrets lanes «data».now }
-    {
-        match (compact, self.protected) {
-            (true, true) => self.chunk_by_chunk::<true>(data, lanes),
-            (true, false) => self.chunk_by_chunk::<false>(data, lanes),
-            (false, true) => self.two_by_two::<true>(data, lanes),
-            (false, false) => self.two_by_two::<false>(data, lanes),
-        }
+// The compact loop: a chunk a turn. A chunk that a byte follows is one of all bytes but the last.
+fn chunk_by_chunk<const L: usize, const PROTECTED: bool>(
+    data: &[u8],
+    secrets: [u64; 7],
+    start: [u64; 7],
+) -> Mixed
+    requires { (0 < L) × (L ≤ 7) }
+    ensures { result ≡ mixed_of L PROTECTED secrets start «data».now }
+{
+    let mut lanes = start;
+    let mut at = 0;
+    for chunk in front(data).chunks_exact(16 * L) {
+        let next = chunk_step::<L, PROTECTED>(chunk, secrets, lanes);
+        lanes = next;
+        at += 16 * L;
     }
+    Mixed { lanes, at }
+}
 
-    // The first chunk of the bytes, if there is one.
-    fn first_chunk(self, bytes: &[u8], lanes: [u64; 7]) -> [u64; 7]
-        ensures { result ≡ first_of L self.entry.protected self.entry.secrets lanes bytes.now }
-    {
-        match bytes.get(..16 * L) {
-            Some(chunk) if self.protected => chunk_step::<L, true>(chunk, self.secrets, lanes),
-            Some(chunk) => chunk_step::<L, false>(chunk, self.secrets, lanes),
-            None => lanes,
-        }
+// The loop that is not compact: two chunks a turn, and at the end one more where one is left.
+fn two_by_two<const L: usize, const PROTECTED: bool>(
+    data: &[u8],
+    secrets: [u64; 7],
+    start: [u64; 7],
+) -> Mixed
+    requires { (0 < L) × (L ≤ 7) }
+    ensures { result ≡ mixed_of L PROTECTED secrets start «data».now }
+{
+    let mut lanes = start;
+    let mut at = 0;
+    let front = front(data);
+    for pair in front.chunks_exact(32 * L) {
+        let (first, second) = pair.split_at(16 * L);
+        let half = chunk_step::<L, PROTECTED>(first, secrets, lanes);
+        let next = chunk_step::<L, PROTECTED>(second, secrets, half);
+        lanes = next;
+        at += 32 * L;
     }
-
-    // The compact loop: a chunk a turn. A chunk that a byte follows is one of all bytes but the last.
-    fn chunk_by_chunk<const PROTECTED: bool>(self, data: &[u8], start: [u64; 7]) -> Mixed
-        ensures { result ≡ mixed_of L PROTECTED self.entry.secrets start «data».now }
-    {
-        let secrets = self.secrets;
-        let mut lanes = start;
-        let mut at = 0;
-        for chunk in front(data).chunks_exact(16 * L) {
-            let next = chunk_step::<L, PROTECTED>(chunk, secrets, lanes);
-            lanes = next;
-            at += 16 * L;
-        }
-        Mixed { lanes, at }
+    if let Some(chunk) = front[at..].get(..16 * L) {
+        let next = chunk_step::<L, PROTECTED>(chunk, secrets, lanes);
+        return Mixed {
+            lanes: next,
+            at: at + 16 * L,
+        };
     }
-
-    // The loop that is not compact: two chunks a turn, and at the end one more where one is left.
-    fn two_by_two<const PROTECTED: bool>(self, data: &[u8], start: [u64; 7]) -> Mixed
-        ensures { result ≡ mixed_of L PROTECTED self.entry.secrets start «data».now }
-    {
-        let secrets = self.secrets;
-        let mut lanes = start;
-        let mut at = 0;
-        let front = front(data);
-        for pair in front.chunks_exact(32 * L) {
-            let (first, second) = pair.split_at(16 * L);
-            let half = chunk_step::<L, PROTECTED>(first, secrets, lanes);
-            let next = chunk_step::<L, PROTECTED>(second, secrets, half);
-            lanes = next;
-            at += 32 * L;
-        }
-        if let Some(chunk) = front[at..].get(..16 * L) {
-            let next = chunk_step::<L, PROTECTED>(chunk, secrets, lanes);
-            return Mixed {
-                lanes: next,
-                at: at + 16 * L,
-            };
-        }
-        Mixed { lanes, at }
-    }
+    Mixed { lanes, at }
 }
 
 // All bytes but the last.
@@ -136,14 +130,31 @@ pub fn mix_first(
     ensures { result ≡ first_of (lanes_of size) protected secrets lanes bytes.now }
 {
     match size {
-        Size::Full => Steps::<7> { secrets, protected }.first_chunk(bytes, lanes),
-        Size::Micro => Steps::<5> { secrets, protected }.first_chunk(bytes, lanes),
-        Size::Nano => Steps::<3> { secrets, protected }.first_chunk(bytes, lanes),
+        Size::Full => first_chunk::<7>(bytes, secrets, lanes, protected),
+        Size::Micro => first_chunk::<5>(bytes, secrets, lanes, protected),
+        Size::Nano => first_chunk::<3>(bytes, secrets, lanes, protected),
     }
 }
 
-// One chunk into the first L lanes. In line, so that the lanes stay in registers from chunk to chunk. By index, since
-// a lane that `iter_mut` lends is known to no proof as the one at its place.
+// The same for any number of lanes.
+fn first_chunk<const L: usize>(
+    bytes: &[u8],
+    secrets: [u64; 7],
+    lanes: [u64; 7],
+    protected: bool,
+) -> [u64; 7]
+    requires { L ≤ 7 }
+    ensures { result ≡ first_of L protected secrets lanes bytes.now }
+{
+    match bytes.get(..16 * L) {
+        Some(chunk) if protected => chunk_step::<L, true>(chunk, secrets, lanes),
+        Some(chunk) => chunk_step::<L, false>(chunk, secrets, lanes),
+        None => lanes,
+    }
+}
+
+// One chunk into the first L lanes. In line, so that the lanes stay in registers from chunk to chunk. By index, since a
+// lane that `iter_mut` lends is known to no proof as the one at its place.
 #[inline(always)]
 fn chunk_step<const L: usize, const PROTECTED: bool>(
     chunk: &[u8],

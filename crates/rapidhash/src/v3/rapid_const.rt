@@ -5,7 +5,7 @@ ghost use Rattle.secrets.specs.Secrets.{seed_cpp};
 ghost use Rattle.rapidhash.specs.Hash.{tail, reached_of, long_ends, ends_of, avalanched, last_of, hash_of};
 
 use crate::util::read::{word4, word8};
-use crate::v3::lanes::{Steps, joined_lanes, mix_pair};
+use crate::v3::lanes::{all_chunks, joined_lanes, mix_pair};
 use secrets::util::mix::{rapid_mix, rapid_mum};
 use secrets::v3::seed::RapidSecrets;
 
@@ -176,12 +176,8 @@ impl<const L: usize> Hasher<L> {
         if data.len() <= 16 * L {
             return Reached { seed, at: 0 };
         }
-        let secrets = self.secrets.secrets;
-        let steps = Steps::<L> {
-            secrets,
-            protected: self.protected,
-        };
-        let m = steps.all_chunks(data, [seed; 7], self.compact);
+        let s = self.secrets.secrets;
+        let m = all_chunks::<L>(data, s, [seed; 7], self.compact, self.protected);
         Reached {
             seed: joined_lanes::<L>(m.lanes),
             at: m.at,

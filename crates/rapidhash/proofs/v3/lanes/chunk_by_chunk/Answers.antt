@@ -1,7 +1,7 @@
 -- Each chunk that comes is the one at the place, and a byte follows it: `off_chunk`, `off_followed`. Assumes nothing.
 use Rattle.std.proofs.Common.{◌*◌, sym, ◌∙◌, arith, rules}
 use Rattle.rapidhash.proofs.Chunks.{ahead_start, ahead_chunk, ahead_done, off_followed, off_chunk, off_left, off_none}
-use Rattle.rapidhash.proofs.v3.lanes.Steps.chunk_by_chunk.Goals as goal
+use Rattle.rapidhash.proofs.v3.lanes.chunk_by_chunk.Goals as goal
 
 pub loop-chunk-init : goal.loop-chunk-init
 loop-chunk-init g c = record {

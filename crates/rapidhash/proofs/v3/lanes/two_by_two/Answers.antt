@@ -1,7 +1,7 @@
 -- As the loop that goes chunk by chunk, two turns at a time. Assumes nothing.
 use Rattle.std.proofs.Common.{◌≡◌, ◌-◌, ◌*◌, length, take, drop, ap, sym, ◌∙◌, arith, rules, length-drop, length-take}
 use Rattle.rapidhash.proofs.Chunks.{ahead_start, ahead_chunk, ahead_pair, ahead_done, off_followed, off_chunk, off_left, off_none, off_first}
-use Rattle.rapidhash.proofs.v3.lanes.Steps.two_by_two.Goals as goal
+use Rattle.rapidhash.proofs.v3.lanes.two_by_two.Goals as goal
 
 pub loop-pair-init : goal.loop-pair-init
 loop-pair-init g c = record {

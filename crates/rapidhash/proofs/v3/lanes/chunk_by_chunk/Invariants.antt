@@ -4,7 +4,7 @@ use Rattle.std.proofs.Common.{◌≡◌, not, eqb, ◌-◌, ◌*◌, ◌≤◌, 
 use Rattle.std.specs.Slice.Iter.{chunks_exact_rest, chunks_exact_size}
 use Rattle.rapidhash.specs.Hash.{mixed_of}
 use Rattle.rapidhash.proofs.Chunks.{ahead}
-use Rattle.rapidhash.proofs.v3.lanes.Steps.chunk_by_chunk.Given as goal
+use Rattle.rapidhash.proofs.v3.lanes.chunk_by_chunk.Given as goal
 
 abbrev pub invariant-loop-chunk : goal.invariant-loop-chunk
 invariant-loop-chunk g l = record {

@@ -4,7 +4,7 @@ use Rattle.std.proofs.Common.{◌≡◌, not, eqb, ◌-◌, ◌*◌, ◌≤◌, 
 use Rattle.std.specs.Slice.Iter.{chunks_exact_rest, chunks_exact_size}
 use Rattle.rapidhash.specs.Hash.{mixed_of}
 use Rattle.rapidhash.proofs.Chunks.{ahead}
-use Rattle.rapidhash.proofs.v3.lanes.Steps.two_by_two.Given as goal
+use Rattle.rapidhash.proofs.v3.lanes.two_by_two.Given as goal
 
 abbrev pub invariant-loop-pair : goal.invariant-loop-pair
 invariant-loop-pair g l = record {

@@ -1,7 +1,7 @@
 -- The test of the code is the test of the rule. Assumes nothing.
 use Rattle.std.proofs.Common.{◌*◌, refl, arith, rules}
 use Rattle.rapidhash.proofs.Lanes.{first_none, first_some}
-use Rattle.rapidhash.proofs.v3.lanes.Steps.first_chunk.Goals as goal
+use Rattle.rapidhash.proofs.v3.lanes.first_chunk.Goals as goal
 
 pub returns-in-None : goal.returns-in-None
 returns-in-None g c = let l = c.in-None.ensures.lookup in first_none _ _ _ _ _ (omega arith)
