@@ -67,7 +67,8 @@ fn cuts(record: &[u8], secrets: RapidSecrets, wanted: u64) -> usize {
 }
 
 // The hash of the values of tags 1 to 4 where each is written in two parts, so that one of them is cut at a place
-// inside it, be that inside a letter. A loop, since the stream and what is left of the place change together.
+// inside it, be that inside a letter. A loop: a fold over the stream and what is left of the
+// place, as a pair, is no plainer.
 fn cut_at(record: &[u8], secrets: RapidSecrets, at: usize) -> Option<u64> {
     let mut stream = RapidStreamHasher::new(secrets, true, false);
     let mut left = at;
@@ -77,7 +78,7 @@ fn cut_at(record: &[u8], secrets: RapidSecrets, at: usize) -> Option<u64> {
         stream = in_two(stream, value, cut);
         left -= cut;
     }
-    hash_of(stream)
+    ended_hash(stream)
 }
 
 // A stream with bytes that are cut at a place.
@@ -89,6 +90,6 @@ fn in_two(stream: RapidStreamHasher, value: &[u8], at: usize) -> RapidStreamHash
 }
 
 // The hash that a stream ends in, unless it is not sound.
-fn hash_of(stream: RapidStreamHasher) -> Option<u64> {
+fn ended_hash(stream: RapidStreamHasher) -> Option<u64> {
     stream.finish().ok().map(|end| end.hash)
 }

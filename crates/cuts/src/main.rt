@@ -111,27 +111,24 @@ impl Trial<'_> {
             .count()
     }
 
-    // How many of the cuts into three do: a first part, and what follows it in two. A loop, since the check does not
-    // prove of `map(..).sum()` over a range that the sum fits.
+    // How many of the cuts into three do: a first part, and what follows it in two.
     fn three_parts(&self) -> usize {
-        let mut same = 0;
-        for n in 0..=self.bytes.len() {
-            same += self.from_cut(n);
-        }
-        same
+        (0..=self.bytes.len())
+            .map(|n| self.from_cut(n))
+            .fold(0, usize::saturating_add)
     }
 
     // How many of the cuts into three that begin with n bytes do.
     fn from_cut(&self, n: usize) -> usize
         ensures { result ≤ 1001 }
     {
-        match self.bytes.split_at_checked(n) {
-            Some((front, back)) => match took(self.fresh, front) {
-                Some(first) => self.two_parts(first, back),
-                None => 0,
-            },
-            None => 0,
-        }
+        let Some((front, back)) = self.bytes.split_at_checked(n) else {
+            return 0;
+        };
+        let Some(first) = took(self.fresh, front) else {
+            return 0;
+        };
+        self.two_parts(first, back)
     }
 
     // The stream after the bytes one by one.

@@ -22,6 +22,19 @@ impl fmt::Display for Words {
     }
 }
 
+// What a look-up finds: its number and the value, 0 where there is none.
+#[derive(Drop)]
+struct Told(Option<u64>);
+
+impl fmt::Display for Told {
+    fn fmt<W: fmt::Write>(&self, f: &mut fmt::Formatter<W>) -> fmt::Result {
+        match self.0 {
+            Some(value) => write!(f, "0 {value:016x}"),
+            None => write!(f, "3 {:016x}", 0),
+        }
+    }
+}
+
 fn main(rt: HostRuntime) -> io::Result<()> {
     seeds(&rt)?;
     reads(&rt, &[0, 1, 2, 3, 4, 5, 6, 7, 8, 249])?;
@@ -69,16 +82,7 @@ fn each_secret(rt: &impl Print, secrets: RapidSecrets) -> io::Result<()> {
     Ok(())
 }
 
-// The number of the answer, and its value.
+// The line of a look-up: the request, and what it finds.
 fn answer(rt: &impl Print, request: &str, place: usize, found: Option<u64>) -> io::Result<()> {
-    let (number, value) = told(found);
-    println!(rt; "{request} {place:016x} = {number} {value:016x}")
-}
-
-// The number of a look-up, 0 or 3, and the value, 0 where there is none.
-fn told(found: Option<u64>) -> (u8, u64) {
-    match found {
-        Some(value) => (0, value),
-        None => (3, 0),
-    }
+    println!(rt; "{request} {place:016x} = {}", Told(found))
 }

@@ -67,12 +67,14 @@ pub struct Lengths {
 }
 
 impl Lengths {
+    // The lengths from the least to the most.
     fn between(least: usize, most: usize) -> Lengths
         ensures { Some result ≡ lengths least most }
     {
         Lengths { least, most }
     }
 
+    // Whether a value may be so long.
     fn allows(self, length: usize) -> bool
         ensures { result ≡ allows self length }
     {

@@ -59,6 +59,33 @@ impl fmt::Display for Place {
     }
 }
 
+// What a write says: its number, and the room left.
+#[derive(Drop)]
+struct Said(Result<(), WriteError>);
+
+impl fmt::Display for Said {
+    fn fmt<W: fmt::Write>(&self, f: &mut fmt::Formatter<W>) -> fmt::Result {
+        match self.0 {
+            Ok(()) => write!(f, "0 0"),
+            Err(WriteError::NotSound) => write!(f, "1 0"),
+            Err(WriteError::TooLong(room)) => write!(f, "2 {room}"),
+        }
+    }
+}
+
+// What finish says: its number, the hash and the number of chunks.
+#[derive(Drop)]
+struct Ended(Result<Finished, NotSound>);
+
+impl fmt::Display for Ended {
+    fn fmt<W: fmt::Write>(&self, f: &mut fmt::Formatter<W>) -> fmt::Result {
+        match self.0 {
+            Ok(Finished { hash, count }) => write!(f, "0 {hash:016x} {count}"),
+            Err(NotSound) => write!(f, "1 {:016x} 0", 0),
+        }
+    }
+}
+
 // Each state, and what a write of each size says of it.
 pub(crate) fn tried(rt: &impl Print, cases: &[Case<'_>]) -> io::Result<()> {
     for case in cases {
@@ -85,8 +112,11 @@ fn writes(rt: &impl Print, case: &Case<'_>, state: RapidStreamHasher) -> io::Res
     for size in case.sizes {
         let title = case.title(Some(*size));
         let written = state.write(&bytes[..usize::from(*size)]);
-        let (number, room) = said(written.outcome);
-        println!(rt; "{title} write {number} {room} {}", Place(written.state))?;
+        println!(rt;
+            "{title} write {} {}",
+            Said(written.outcome),
+            Place(written.state)
+        )?;
         shows_state(rt, &title, "state", written.state)?;
         shows_finish(rt, &title, written.state)?;
     }
@@ -111,23 +141,5 @@ fn shows_state(
 
 // The line of what finish says of a state.
 fn shows_finish(rt: &impl Print, title: &Title<'_>, state: RapidStreamHasher) -> io::Result<()> {
-    let (number, hash, count) = found(state.finish());
-    println!(rt; "{title} finish {number} {hash:016x} {count}")
-}
-
-// The number of what a write says, and the room left.
-fn said(outcome: Result<(), WriteError>) -> (u8, u64) {
-    match outcome {
-        Ok(()) => (0, 0),
-        Err(WriteError::NotSound) => (1, 0),
-        Err(WriteError::TooLong(room)) => (2, room),
-    }
-}
-
-// The number of what finish says, the hash and the number of chunks.
-fn found(finished: Result<Finished, NotSound>) -> (u8, u64, u64) {
-    match finished {
-        Ok(Finished { hash, count }) => (0, hash, count),
-        Err(NotSound) => (1, 0, 0),
-    }
+    println!(rt; "{title} finish {}", Ended(state.finish()))
 }

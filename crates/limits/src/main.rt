@@ -24,8 +24,8 @@ fn main(rt: HostRuntime) -> io::Result<()> {
     Ok(())
 }
 
-// Every case, with one setting of the flags. (Each group takes where it prints and that setting: a struct of the two would
-// only rename them.)
+// Every case, with one setting of the flags. (Each group takes where it prints and that setting: a struct of the two
+// would only rename them.)
 fn cases(rt: &impl Print, protected: bool) -> io::Result<()> {
     waiting(rt, protected)?;
     before_first_chunk(rt, protected)?;

@@ -9,18 +9,21 @@ use stream::rapid_stream_hasher::{NotSound, RapidStreamHasher, WriteError};
 #[derive(Drop)]
 pub(crate) struct ReadFailed;
 
+// What failed, whatever it was, is told by one fixed line, so the error holds nothing: a failed read,
 impl From<io::Error> for ReadFailed {
     fn from(_e: io::Error) -> ReadFailed {
         ReadFailed
     }
 }
 
+// a stream that has no hash,
 impl From<NotSound> for ReadFailed {
     fn from(_e: NotSound) -> ReadFailed {
         ReadFailed
     }
 }
 
+// and a write that is refused.
 impl From<WriteError> for ReadFailed {
     fn from(_e: WriteError) -> ReadFailed {
         ReadFailed
@@ -56,8 +59,8 @@ impl Part {
         self.count == 8192
     }
 
-    // Reads anew until the part is full, the input ends or a read fails. How many bytes a read brings is the reader's, so
-    // there is no range to go over.
+    // Reads anew until the part is full, the input ends or a read fails. How many bytes a read brings is the reader's,
+    // so there is no range to go over.
     pub(crate) fn fill<R: Read>(&mut self, input: &mut R) -> Result<(), ReadFailed>
         ensures bytes { Consumes (R.remaining input.old) (R.remaining input.new) (part_bytes self.new) }
         ensures end { OnOk result (self.new.count < 8192 → IsAtEnd (R.remaining input.new)) }

@@ -5,7 +5,8 @@ ghost use Rattle.std.specs.Prelude.{◌≡◌};
 ghost use Rattle.samples.specs.Sample.{message_of};
 
 // Bytes in which every place and every length differs, by a rule that the oracle repeats. Only n % 256 counts, and
-// taking it first keeps the sum small for any n. A whole array, of which a caller takes the first n: no memory from a heap.
+// taking it first keeps the sum small for any n. A whole array, of which a caller takes the first n: no memory from a
+// heap.
 pub fn message(n: usize) -> [u8; 1000]
     ensures { result ≡ message_of n }
 {

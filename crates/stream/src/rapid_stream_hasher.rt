@@ -68,8 +68,8 @@ impl From<NotSound> for WriteError {
     }
 }
 
-// A write's answer: the next state, and whether all bytes were taken. A struct beside a result, since a refusal gives
-// the state back too.
+// A write's answer: the next state, and whether all bytes were taken. A struct beside a result, as the rules name it:
+// what a refusal leaves is the state as it was, and the contract says so of this field.
 #[derive(Clone, Copy)]
 pub struct Written {
     pub state: RapidStreamHasher,
@@ -84,7 +84,7 @@ pub struct Finished {
 }
 
 impl RapidStreamHasher {
-    // The opening state.
+    // The opening state. (Three parameters and no `Settings`, as the Rust has them and as C calls it.)
     pub fn new(secrets: RapidSecrets, avalanche: bool, protected: bool) -> Self
         ensures { result ≡ opening_of (record { secrets = secrets; avalanche = avalanche; protected = protected }) }
     {
@@ -158,6 +158,7 @@ impl RapidStreamHasher {
     }
 }
 
+// The state of a stream of no bytes.
 fn opening(settings: Settings) -> RapidStreamHasher
     ensures { result ≡ opening_of settings }
 {
@@ -392,7 +393,8 @@ fn last_sixteen<'a>(prev: &'a [u8], data: &'a [u8], at: usize) -> &'a [u8]
     }
 }
 
-// The word at a place that is known to be there.
+// The word at a place that is known to be there. (As the `word8` of rapidhash, which only that crate sees, since no
+// public function asks anything.)
 fn word_at(bytes: &[u8], at: usize) -> u64
     requires { at + 8 ≤ length bytes.now }
     ensures { result ≡ word 8 bytes.now at }

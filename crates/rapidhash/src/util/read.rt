@@ -27,8 +27,8 @@ fn bytes_at<const N: usize>(bytes: &[u8], offset: usize) -> Option<[u8; N]>
     bytes.get(offset..)?.first_chunk().copied()
 }
 
-// Whether every byte is zero. By words, with an exit at the first that is not, as each write to a stream tests its buffer:
-// with one `fold` over the bytes a stream of 16 bytes took 150 ns, and takes 112 so.
+// Whether every byte is zero. By words, with an exit at the first that is not, as each write to a stream tests its
+// buffer: with one `fold` over the bytes a stream of 16 bytes took 150 ns, and takes 112 so.
 pub fn all_zero(bytes: &[u8]) -> bool
     ensures { result ≡ all_are 0 bytes.now }
 {
@@ -49,7 +49,7 @@ fn zero_bytes(bytes: &[u8]) -> bool
     bytes.iter().all(|b| *b == 0)
 }
 
-// The 8 bytes at a place that is known to be there. Straight-line, so that the compiler makes one load of it.
+// The 8 bytes at a place that is known to be there: one load.
 pub(crate) fn word8(bytes: &[u8], at: usize) -> u64
     requires { at + 8 ≤ length bytes.now }
     ensures { result ≡ word 8 bytes.now at }

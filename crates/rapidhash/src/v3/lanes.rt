@@ -153,8 +153,8 @@ fn first_chunk<const L: usize>(
     }
 }
 
-// One chunk into the first L lanes. In line, so that the lanes stay in registers from chunk to chunk. By index, since a
-// lane that `iter_mut` lends is known to no proof as the one at its place.
+// One chunk into the first L lanes. In line, so that the lanes stay in registers from chunk to chunk. By index: of the
+// first lanes alone, lent by `iter_mut`, a proof knows afterwards how many they are and no lane.
 #[inline(always)]
 fn chunk_step<const L: usize, const PROTECTED: bool>(
     chunk: &[u8],
