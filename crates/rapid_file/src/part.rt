@@ -40,7 +40,7 @@ pub(crate) struct Part {
 }
 
 impl Part {
-    ghost use Rattle.std.specs.Prelude.{◌≡◌, ◌<◌, ◌↔◌, OnOk, IsTrue, Ok};
+    ghost use Rattle.std.specs.Prelude.{◌≡◌, ◌+◌, ◌<◌, ◌↔◌, ℕ, List, Option, take, OnOk, IfOk, MatchResult, IsTrue, Ok};
     ghost use Rattle.std.specs.Io.KnownBytes.{Consumes, IsAtEnd};
     ghost use Rattle.rapid_file.specs.Parts.{part_bytes, progress_of};
 
@@ -67,14 +67,27 @@ impl Part {
     {
         self.count = 0;
         while self.count < 8192 {
-            let count = self.count;
-            let n = input.read(&mut self.bytes[count..])?;
-            self.count += n;
+            let n = self.more(input)?;
             if n == 0 {
                 break;
             }
         }
         Ok(())
+    }
+
+    // One read, behind the bytes that are there, which stay: how many came.
+    fn more<R: Read>(&mut self, input: &mut R) -> Result<usize, ReadFailed>
+        requires { self.old.count < 8192 }
+        ensures stays { take self.old.count self.new.bytes ≡ take self.old.count self.old.bytes }
+        ensures grows { MatchResult result (λ n. self.new.count ≡ self.old.count + n) (λ _. self.new.count ≡ self.old.count) }
+        ensures bytes { (a : Option (List ℕ)) → Consumes a (R.remaining input.old) (part_bytes self.old)
+            → Consumes a (R.remaining input.new) (part_bytes self.new) }
+        ensures end { IfOk result (λ n. n ≡ 0 → IsAtEnd (R.remaining input.new)) }
+    {
+        let count = self.count;
+        let n = input.read(&mut self.bytes[count..])?;
+        self.count += n;
+        Ok(n)
     }
 
     // The stream with all the part's bytes, unless it does not take them.
