@@ -1,7 +1,6 @@
 -- What one part comes to, by what the read and the write say; and part after part. Assumes nothing.
-use Rattle.std.proofs.Common.{ℕ, ◌≡◌, ◌+◌, ◌<◌, ◌≤◌, false, eqb, List, ◌++◌, length, length-append, take, Option, Result, Ok, Err, refl, sym, ◌∙◌, ap, subst, arith}
-use Rattle.std.proofs.Math.Seq.{take-append-add}
-use Rattle.std.proofs.lemmas.List.{take-append-le, length-take-le}
+use Rattle.std.proofs.Common.{ℕ, ◌≡◌, ◌+◌, ◌<◌, ◌≤◌, false, eqb, List, length, length-append, Option, Result, Ok, Err, refl, sym, ◌∙◌, ap, subst, arith}
+use Rattle.std.proofs.lemmas.List.{length-take-le}
 use Rattle.std.proofs.KnownBytes.{Consumes-nil, Consumes-trans}
 use Rattle.std.specs.Io.KnownBytes.{Consumes, IsAtEnd}
 use Rattle.std.specs.Result.{IsErr}
@@ -11,7 +10,8 @@ use Rattle.stream.specs.declared.rapid_stream_hasher.RapidStreamHasher.{RapidStr
 use Rattle.stream.specs.declared.rapid_stream_hasher.WriteError.{WriteError}
 use Rattle.stream.specs.declared.rapid_stream_hasher.WriteError.TheVariants.{NotSound, TooLong}
 use Rattle.stream.specs.declared.rapid_stream_hasher.Written.{Written}
-use Rattle.rapid_file.specs.Parts.{part_bytes, progress_of, Came, none, part, bytes_in, CameFrom}
+use Rattle.std.specs.Prelude.{⊤}
+use Rattle.rapid_file.specs.Parts.{AllFull, FullBeforeLast, part_bytes, progress_of, Came, none, part, bytes_in, CameFrom}
 use Rattle.rapid_file.specs.declared.part.Part.{Part}
 use Rattle.rapid_file.specs.declared.part.ReadFailed.{ReadFailed}
 
@@ -32,35 +32,31 @@ module _ (h : RapidStreamHasher) (p : Part) (w : Written) (writes : answered w �
   part_refused (Err x) {e} i u = rw (← writes, u, not_zero e)
   part_refused (Ok s) i u = absurd (false≢true i)
 
--- what the reads before put in front, and one that put n bytes behind the first a
-pub came_more : (a n : ℕ) (xs ys zs : List ℕ) (x y z : Option (List ℕ)) → a ≤ length xs → n ≤ length ys → Consumes x y (take a xs) → Consumes y z (take n ys)
-    → Consumes x z (take (a + n) (take a xs ++ (ys ++ zs)))
-came_more a n xs ys zs x y z h k p q =
-    let front : take (a + n) (take a xs ++ (ys ++ zs)) ≡ take a xs ++ take n (ys ++ zs) =
-    subst (λ (m : ℕ). take (m + n) (take a xs ++ (ys ++ zs)) ≡ take a xs ++ take n (ys ++ zs)) (length-take-le a xs h) (take-append-add (take a xs) (ys ++ zs) n) in
-    subst (Consumes x z) (sym (front ∙ ap (λ (l : List ℕ). take a xs ++ l) (take-append-le n ys zs k))) (Consumes-trans x y z _ _ p q)
-
--- parts that a reader gave, of n bytes in all
-pub record Gave (h : RapidStreamHasher) (g : Result RapidStreamHasher ReadFailed) (a b : Option (List ℕ)) (n : ℕ) : Type 0 where
+-- parts that a reader gave, of n bytes in all: each but the last is full, and the last too where a fact holds
+pub record Gave (h : RapidStreamHasher) (g : Result RapidStreamHasher ReadFailed) (a b : Option (List ℕ)) (n : ℕ) (last : Type 0) : Type 0 where
   pub parts : Came h g
   pub bytes : Consumes a b (bytes_in parts)
   pub long : length (bytes_in parts) ≡ n
+  pub before : FullBeforeLast parts
+  pub full : last → AllFull parts
 
 -- no part yet
-pub none_given : (h : RapidStreamHasher) (a : Option (List ℕ)) → Gave h (Ok h) a a 0
-unfolding bytes_in
-none_given h a = record { parts = none; bytes = Consumes-nil a; long = refl }
+pub none_given : (h : RapidStreamHasher) (a : Option (List ℕ)) → Gave h (Ok h) a a 0 ⊤
+unfolding bytes_in FullBeforeLast AllFull
+none_given h a = record { parts = none; bytes = Consumes-nil a; long = refl; before = tt; full = λ u. tt }
 
 -- one part more, of which the reader lost the bytes
-module _ {h s : RapidStreamHasher} (p : Part) (a b c : Option (List ℕ)) (n : ℕ) (f : Gave h (Ok s) a b n) (k : Consumes b c (part_bytes p)) where
-  more_given : (r : Result (Unit {0}) ReadFailed) → Gave h (progress_of s p r) a c (n + p.count)
-  unfolding bytes_in
+module _ {h s : RapidStreamHasher} (p : Part) (a b c : Option (List ℕ)) (n : ℕ) (f : Gave h (Ok s) a b n ⊤) (k : Consumes b c (part_bytes p)) where
+  more_given : (r : Result (Unit {0}) ReadFailed) → Gave h (progress_of s p r) a c (n + p.count) (p.count ≡ 8192)
+  unfolding bytes_in FullBeforeLast AllFull
   more_given r =
       let le : p.count ≤ length p.bytes = omega (arith, p.size, p.within) in
       record {
         parts = part p r f.parts;
         bytes = Consumes-trans a b c _ _ f.bytes k;
         long = length-append (bytes_in f.parts) (part_bytes p) ∙ ap (λ (m : ℕ). m + length (part_bytes p)) f.long ∙ ap (λ (m : ℕ). n + m) (length-take-le p.count p.bytes le);
+        before = f.full tt;
+        full = λ e. (e, f.full tt);
       }
 
   -- and no further
@@ -71,7 +67,7 @@ module _ {h s : RapidStreamHasher} (p : Part) (a b c : Option (List ℕ)) (n : �
       subst
       (λ (g : Result RapidStreamHasher ReadFailed). CameFrom h g a c)
       (sym e)
-      (record { parts = w.parts; bytes = w.bytes; ended = λ t u y. d t (e ∙ u) (subst (λ (m : ℕ). m ≤ most) w.long y) })
+      (record { parts = w.parts; full = w.before; bytes = w.bytes; ended = λ t u y. d t (e ∙ u) (subst (λ (m : ℕ). m ≤ most) w.long y) })
 
   -- where a read failed
   pub failed_read : (q : Result RapidStreamHasher ReadFailed) → IsErr q → CameFrom h q a c
@@ -90,7 +86,10 @@ module _ {h s : RapidStreamHasher} (p : Part) (a b c : Option (List ℕ)) (n : �
   last_part q e o d = came_to (Ok tt) q e (λ t u y. d (o y))
 
   -- and on from a full part
-  pub full_part : {t : RapidStreamHasher} (m : ℕ) → p.count ≡ 8192 → n + 8192 ≡ m → Ok t ≡ progress_of s p (Ok tt) → Gave h (Ok t) a c m
+  pub full_part : {t : RapidStreamHasher} (m : ℕ) → p.count ≡ 8192 → n + 8192 ≡ m → Ok t ≡ progress_of s p (Ok tt) → Gave h (Ok t) a c m ⊤
   full_part {t} m u v e =
       let j : n + p.count ≡ m = omega arith in
-      subst (Gave h (Ok t) a c) j (subst (λ (q : Result RapidStreamHasher ReadFailed). Gave h q a c (n + p.count)) (sym e) (more_given (Ok tt)))
+      let w = more_given (Ok tt) in
+      let v : Gave h (progress_of s p (Ok tt)) a c (n + p.count) ⊤ =
+      record { parts = w.parts; bytes = w.bytes; long = w.long; before = w.before; full = λ x. w.full u } in
+      subst (λ (m : ℕ). Gave h (Ok t) a c m ⊤) j (subst (λ (q : Result RapidStreamHasher ReadFailed). Gave h q a c (n + p.count) ⊤) (sym e) v)

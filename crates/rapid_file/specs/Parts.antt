@@ -1,6 +1,6 @@
 -- The input, part by part (docs/RULES.md, section 6): what one part comes to, and what parts come to that were read one after
 -- another. Assumes nothing.
-use Rattle.std.specs.Prelude.{ℕ, ◌≡◌, ◌≤◌, List, [], ◌++◌, eqb, length, take, Option, Result, Ok, Err}
+use Rattle.std.specs.Prelude.{ℕ, ◌≡◌, ◌≤◌, ⊤, List, [], ◌++◌, eqb, length, take, Option, Result, Ok, Err}
 use Rattle.std.specs.Io.KnownBytes.{Consumes, IsAtEnd}
 use Rattle.secrets.specs.Choice.{pick}
 use Rattle.stream.specs.State.{most, write_of}
@@ -31,9 +31,20 @@ unfoldable pub bytes_in : {h : RapidStreamHasher} {g : Result RapidStreamHasher 
 bytes_in none = []
 bytes_in (part p r c) = bytes_in c ++ part_bytes p
 
--- what parts come to that a reader gave, by the bytes that it had before and has after, where they are known: the parts have those that it
--- lost; and where nothing failed it has none left, unless they are more than a stream may have
+-- each of those parts is full
+unfoldable pub AllFull : {h : RapidStreamHasher} {g : Result RapidStreamHasher ReadFailed} → Came h g → Type 0
+AllFull none = ⊤
+AllFull (part p r c) = (p.count ≡ 8192) × AllFull c
+
+-- and each but the last
+unfoldable pub FullBeforeLast : {h : RapidStreamHasher} {g : Result RapidStreamHasher ReadFailed} → Came h g → Type 0
+FullBeforeLast none = ⊤
+FullBeforeLast (part p r c) = AllFull c
+
+-- what parts come to that a reader gave, by the bytes that it had before and has after, where they are known: each part but the last is full,
+-- and they have the bytes that it lost; and where nothing failed it has none left, unless they are more than a stream may have
 pub record CameFrom (h : RapidStreamHasher) (g : Result RapidStreamHasher ReadFailed) (before after : Option (List ℕ)) : Type 0 where
   pub parts : Came h g
+  pub full : FullBeforeLast parts
   pub bytes : Consumes before after (bytes_in parts)
   pub ended : (s : RapidStreamHasher) → g ≡ Ok s → length (bytes_in parts) ≤ most → IsAtEnd after

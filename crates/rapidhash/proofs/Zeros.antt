@@ -2,7 +2,6 @@
 use Rattle.std.proofs.Common.{◌≡◌, ℕ, zero, suc, ◌+◌, ◌*◌, ◌^◌, ◌<◌, ◌≤◌, Bool, true, false, ◌&&◌, eqb, ◌⊎◌, List, [], ◌∷◌, refl, length, get_or, drop, sym, ◌∙◌, inl, inr, eq-zero-or-pos, mul-pos, add-one, arith, drop-cons, eq-eqb, ne_eqb}
 use Rattle.std.specs.List.{list_all}
 use native.Mathlib.Nat.{one-le-pow}
-use lib.Seq.{drop-length}
 use Rattle.secrets.specs.Choice.{pick, all_are}
 use Rattle.rapidhash.specs.Words.{word}
 
@@ -20,22 +19,6 @@ all_by_test s e = e ∙ list_all_zero s
 pub all_cons : (v : ℕ) (s : List ℕ) (i : ℕ) → i < length s → all_are v (drop i s) ≡ pick (eqb (get_or s i 0) v) (all_are v (drop (i + 1) s)) false
 unfolding all_are
 all_cons v s i h = rw (drop-cons s i 0 h, add-one)
-
-module _ (v : ℕ) (s : List ℕ) where
-  -- a number that is the one sought leaves the question to the rest
-  pub all_next : {b : Bool} (i : ℕ) → b ≡ all_are v (drop i s) → i < length s → get_or s i 0 ≡ v → b ≡ all_are v (drop (i + 1) s)
-  all_next i e h k = e ∙ all_cons v s i h ∙ rw (eq-eqb (get_or s i 0) v k)
-
-  -- another one answers it
-  pub all_not : {b : Bool} (i : ℕ) → b ≡ all_are v (drop i s) → i < length s → (get_or s i 0 ≡ v → ⊥) → false ≡ b
-  all_not i e h k = sym (e ∙ all_cons v s i h ∙ rw (ne_eqb (get_or s i 0) v k))
-
-  -- at the end all were
-  pub all_end : {b : Bool} (i : ℕ) → b ≡ all_are v (drop i s) → length s ≤ i → i ≤ length s → true ≡ b
-  unfolding all_are
-  all_end {b} i e h k =
-      let at : i ≡ length s = omega arith in
-      sym (e ∙ rw (at, drop-length))
 
 -- a sum of a number and a weighed digit is zero exactly where both are
 both_zero : (x b w : ℕ) → 0 < w → (a : Bool) → pick (eqb x 0) (pick (eqb b 0) a false) false ≡ pick (eqb (x + b * w) 0) a false

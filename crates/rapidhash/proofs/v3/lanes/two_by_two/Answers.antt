@@ -16,9 +16,6 @@ loop-pair-init g c = record {
 pub slice_bounds-get-count : goal.slice_bounds-get-count
 slice_bounds-get-count g c = omega (arith, c.loop-pair.invariant.within, simp length-take at (ap length c.front-front.ensures))
 
-pub slice_bounds-get-start : goal.slice_bounds-get-start
-slice_bounds-get-start g c = search rules
-
 pub loop-pair-preserved : goal.loop-pair-preserved
 loop-pair-preserved g c =
     let at = c.loop-pair.at in
