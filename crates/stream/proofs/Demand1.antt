@@ -11,6 +11,7 @@ use Rattle.stream.specs.declared.rapid_stream_hasher.WriteError.{WriteError}
 use Rattle.stream.specs.declared.rapid_stream_hasher.WriteError.TheVariants.{NotSound, TooLong}
 use Rattle.stream.specs.declared.rapid_stream_hasher.Written.{Written}
 use Rattle.stream.specs.declared.rapid_stream_hasher.Finished.{Finished}
+use Rattle.stream.proofs.rapid_stream_hasher.WriteErrorFromNotSound.from.Reads as error
 use Rattle.stream.proofs.rapid_stream_hasher.RapidStreamHasher.new.Reads as new
 use Rattle.stream.proofs.rapid_stream_hasher.RapidStreamHasher.write.Reads as write
 use Rattle.stream.proofs.rapid_stream_hasher.RapidStreamHasher.finish.Reads as finish
@@ -44,6 +45,9 @@ finished_back (Err _) = refl
 
 pub ended_apart : (x y : Result Finished Unsound) → ended x ≡ ended y → x ≡ y
 ended_apart = told_back ended finished finished_back
+
+pub error_from_one : OneAnswer error.Post
+error_from_one κ a r₁ r₂ s₁ s₂ p q = one p q
 
 pub new_one : OneAnswer new.Post
 new_one κ a r₁ r₂ s₁ s₂ p q = one p q
