@@ -18,7 +18,8 @@ impl fmt::Display for Hex<'_> {
     }
 }
 
-// The seed and the seven secrets, each behind a space. (As the `Words` of `edges`, with other spaces; the reason is there.)
+// The seed and the seven secrets, each behind a space. (As the `Words` of `edges`, with other spaces; the reason is
+// there.)
 #[derive(Drop)]
 pub(crate) struct All(pub(crate) RapidSecrets);
 

@@ -20,8 +20,8 @@ pub fn fingerprint(record: &[u8], secrets: RapidSecrets) -> Result<u64, Refusal>
     Ok(hash_of_values(record, secrets))
 }
 
-// The hash of the values of tags 1 to 4. (The stream is sound whatever was written to it, so that the 0 is never answered:
-// `never_unsound`.)
+// The hash of the values of tags 1 to 4. (The stream is sound whatever was written to it, so that the 0 is never
+// answered: `never_unsound`.)
 fn hash_of_values(record: &[u8], secrets: RapidSecrets) -> u64
     requires { length «record».now ≤ 8192 }
     ensures { result ≡ hash_of 7 true false secrets (hashed_of «record».now) }

@@ -79,7 +79,8 @@ impl Part {
     fn more<R: Read>(&mut self, input: &mut R) -> Result<usize, ReadFailed>
         requires { self.old.count < 8192 }
         ensures stays { take self.old.count self.new.bytes ≡ take self.old.count self.old.bytes }
-        ensures grows { MatchResult result (λ n. self.new.count ≡ self.old.count + n) (λ _. self.new.count ≡ self.old.count) }
+        ensures grows { MatchResult result (λ n. self.new.count ≡ self.old.count + n)
+            (λ _. self.new.count ≡ self.old.count) }
         ensures bytes { (a : Option (List ℕ)) → Consumes a (R.remaining input.old) (part_bytes self.old)
             → Consumes a (R.remaining input.new) (part_bytes self.new) }
         ensures end { IfOk result (λ n. n ≡ 0 → IsAtEnd (R.remaining input.new)) }

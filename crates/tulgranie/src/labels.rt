@@ -10,8 +10,8 @@ use label::fingerprint::fingerprint;
 use label::reading::read;
 use secrets::v3::seed::RapidSecrets;
 
-// What a call about a record answers: a number of the table, for C, a place, a tag, where a value starts and how long it
-// is, and a fingerprint. What a call does not give is 0.
+// What a call about a record answers: a number of the table, for C, a place, a tag, where a value starts and how long
+// it is, and a fingerprint. What a call does not give is 0.
 #[repr(C)]
 #[derive(Clone, Copy, Debug, Default, PartialEq, Eq)]
 pub struct Answer {
@@ -36,8 +36,8 @@ impl From<Refusal> for Answer {
     }
 }
 
-// A reading: 0 and nothing else, or a refusal. (This and the two below are not one over any value: what a value becomes is
-// another field of the answer each time.)
+// A reading: 0 and nothing else, or a refusal. (This and the two below are not one over any value: what a value becomes
+// is another field of the answer each time.)
 impl From<Result<(), Refusal>> for Answer {
     ghost from_gives = { λ reading answer. told_of answer ≡ told_reading reading };
 

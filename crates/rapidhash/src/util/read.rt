@@ -1,5 +1,6 @@
 // Words out of bytes, as the Rust's util/read: least significant byte first on any host. The two public reads take any
-// offset and answer whether the word is there; the hashes read by word8 and word4, whose range the caller knows.
+// offset and answer whether the word is there; the hashes read by word8 and word4, whose range the caller knows. (A
+// slice and a place in it, as the library's own reads take.)
 ghost use Rattle.std.specs.Prelude.{◌≡◌, ◌==◌, ◌+◌, ◌^◌, ◌<◌, ◌≤◌, Some, None, leb, length, take, drop};
 ghost use Rattle.std.specs.List.{list_all};
 ghost use Rattle.secrets.specs.Choice.{pick, all_are};

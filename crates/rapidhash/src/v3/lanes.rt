@@ -1,14 +1,14 @@
 // Whole chunks into lanes. The three sizes differ in their number of lanes alone, which is a const parameter, as is
-// whether the multiply is protected: the compiler unrolls the lane loop, keeps the lanes in registers and has no flag to
-// test there. A place is counted beside the chunks, since a stream asks how far they reach.
+// whether the multiply is protected: the compiler unrolls the lane loop, keeps the lanes in registers and has no flag
+// to test there. A place is counted beside the chunks, since a stream asks how far they reach.
 ghost use Rattle.std.specs.Prelude.{◌≡◌, ◌+◌, ◌-◌, ◌*◌, ◌<◌, ◌≤◌, length, take};
 ghost use Rattle.rapidhash.specs.Hash.{lanes_of, mix_pair, chunk_step, first_of, mixed_of, joined};
 
 use crate::util::read::word8;
 use secrets::util::mix::rapid_mix;
 
-// Which of the three hashes: 7, 5 or 3 lanes. The public functions take it as an argument, since a const parameter would
-// need a `requires` there, and none has one.
+// Which of the three hashes: 7, 5 or 3 lanes. The public functions take it as an argument, since a const parameter
+// would need a `requires` there, and none has one.
 #[derive(Clone, Copy)]
 pub enum Size {
     Full,

@@ -186,8 +186,8 @@ impl<const L: usize> Hasher<L> {
 }
 
 // The bytes left after the chunks, 16 at a time while more than 16 are left, with secrets 1 and 2. The steps stand one
-// after another, as the Rust has them: a loop would need a list of six secrets and a place beside it, and be no plainer.
-// Longer inputs than a chunk have no step more.
+// after another, as the Rust has them: a loop would need a list of six secrets and a place beside it, and be no
+// plainer. Longer inputs than a chunk have no step more.
 pub fn tail_steps(left: &[u8], s1: u64, s2: u64, seed: u64, protected: bool) -> u64
     ensures { result ≡ tail protected left.now 0 (s2 ∷ s2 ∷ s1 ∷ s1 ∷ s2 ∷ s1 ∷ []) seed }
 {
