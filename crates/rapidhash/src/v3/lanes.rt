@@ -153,8 +153,8 @@ fn first_chunk<const L: usize>(
     }
 }
 
-// One chunk into the first L lanes. In line, so that the lanes stay in registers from chunk to chunk. By index: of the
-// first lanes alone, lent by `iter_mut`, a proof knows afterwards how many they are and no lane.
+// One chunk into the first L lanes. In line, so that the lanes stay in registers from chunk to chunk. Over the lanes'
+// numbers, since two words, a secret and a lane are taken by one number: `iter_mut` would name only the lane otherwise.
 #[inline(always)]
 fn chunk_step<const L: usize, const PROTECTED: bool>(
     chunk: &[u8],
