@@ -11,7 +11,7 @@ use Rattle.stream.specs.declared.rapid_stream_hasher.WriteError.{WriteError}
 use Rattle.stream.specs.declared.rapid_stream_hasher.WriteError.TheVariants.{NotSound, TooLong}
 use Rattle.stream.specs.declared.rapid_stream_hasher.Written.{Written}
 use Rattle.std.specs.Prelude.{⊤}
-use Rattle.rapid_file.specs.Parts.{AllFull, FullBeforeLast, part_bytes, progress_of, Came, none, part, bytes_in, CameFrom}
+use Rattle.rapid_file.specs.Parts.{AllFull, FullBeforeLast, part_bytes, failed_with, progress_of, Came, none, part, bytes_in, CameFrom}
 use Rattle.rapid_file.specs.declared.part.Part.{Part}
 use Rattle.rapid_file.specs.declared.part.ReadFailed.{ReadFailed}
 
@@ -19,6 +19,12 @@ use Rattle.rapid_file.specs.declared.part.ReadFailed.{ReadFailed}
 not_zero : (e : WriteError) → eqb (said (Err e)).number 0 ≡ false
 not_zero NotSound = refl
 not_zero (TooLong r) = refl
+
+module _ (h : RapidStreamHasher) (p : Part) where
+  -- a failed read
+  pub part_failed : (r : Result (Unit {0}) ReadFailed) {e : ReadFailed} → r ≡ Err e → failed_with ≡ progress_of h p r
+  unfolding progress_of
+  part_failed r u = rw u
 
 module _ (h : RapidStreamHasher) (p : Part) (w : Written) (writes : answered w ≡ write_of 7 h (part_bytes p)) where
   -- a part that the stream takes

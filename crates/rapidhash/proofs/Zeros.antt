@@ -46,11 +46,11 @@ zero_word s (suc n) i h =
     ∙ rw (all_cons 0 s (i + n) (omega arith))
     (both_zero (word n s i) (get_or s (i + n) 0) (256 ^ n) (one-le-pow n 256 (omega arith)) (all_are 0 (drop (i + n + 1) s))))
 
-module _ (s : List ℕ) {b : Bool} (e : b ≡ all_are 0 s) (h : 8 ≤ length s) {w : ℕ} (is : w ≡ word 8 s 0) where
-  -- a first word that is zero leaves the question to the rest
-  pub word_next : w ≡ 0 → {r : List ℕ} → r ≡ drop 8 s → b ≡ all_are 0 r
-  word_next z er = e ∙ zero_word s 8 0 h ∙ rw (eq-eqb (word 8 s 0) 0 (sym is ∙ z), ← er)
+module _ (s : List ℕ) {b : Bool} (i : ℕ) (e : b ≡ all_are 0 (drop i s)) (h : i + 8 ≤ length s) {w : ℕ} (is : w ≡ word 8 s i) where
+  -- a word that is zero leaves the question to the rest
+  pub word_next : w ≡ 0 → {r : List ℕ} → r ≡ drop (i + 8) s → b ≡ all_are 0 r
+  word_next z er = e ∙ zero_word s 8 i h ∙ rw (eq-eqb (word 8 s i) 0 (sym is ∙ z), ← er)
 
   -- another one answers it
   pub word_not : (w ≡ 0 → ⊥) → false ≡ b
-  word_not z = sym (e ∙ zero_word s 8 0 h ∙ rw (ne_eqb (word 8 s 0) 0 (λ k. z (is ∙ k))))
+  word_not z = sym (e ∙ zero_word s 8 i h ∙ rw (ne_eqb (word 8 s i) 0 (λ k. z (is ∙ k))))

@@ -10,6 +10,7 @@ pub mod Feed
 pub mod Good
 pub mod Hold
 pub mod OfTheCode
+pub mod ReadBack
 pub mod Runs
 pub mod Seven
 pub mod Slide

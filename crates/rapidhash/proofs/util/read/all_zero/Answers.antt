@@ -8,13 +8,13 @@ pub loop-word-preserved : goal.loop-word-preserved
 loop-word-preserved c =
     let cut = c.in-Some.ensures.cases in
     let s = c.loop-word.left.now in
-    word_next s c.loop-word.invariant (omega (arith, cut.2)) (word8_read s 0 cut.0 c.from_le_bytes.ensures) c.if-from_le_bytes-ne0.false cut.1
+    word_next s 0 c.loop-word.invariant (omega (arith, cut.2)) (word8_read s 0 cut.0 c.from_le_bytes.ensures) c.if-from_le_bytes-ne0.false cut.1
 
 pub returns-then-from_le_bytes-ne0 : goal.returns-then-from_le_bytes-ne0
 returns-then-from_le_bytes-ne0 c =
     let cut = c.in-Some.ensures.cases in
     let s = c.loop-word.left.now in
-    word_not s c.loop-word.invariant (omega (arith, cut.2)) (word8_read s 0 cut.0 c.from_le_bytes.ensures) c.if-from_le_bytes-ne0.true
+    word_not s 0 c.loop-word.invariant (omega (arith, cut.2)) (word8_read s 0 cut.0 c.from_le_bytes.ensures) c.if-from_le_bytes-ne0.true
 
 pub returns : goal.returns
 returns c = all_by_test _ c.zero_bytes.ensures ∙ sym c.loop-word.invariant

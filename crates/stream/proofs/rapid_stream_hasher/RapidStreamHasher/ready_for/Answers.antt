@@ -12,4 +12,4 @@ returns-in_err-h c =
 pub returns-then-room-data : goal.returns-then-room-data
 returns-then-room-data c =
     let h = c.in_ok-h.h in
-    write_long c.args.self.now c.args.«data».now c.in_ok-h.ensures h.is_sound c.room-room.ensures h.short c.if-room-data.true
+    write_long c.args.self.now c.args.«data».now c.in_ok-h.ensures h.is_sound c.room-room.ensures c.if-room-data.true
