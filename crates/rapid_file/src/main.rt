@@ -8,8 +8,10 @@ ghost use Rattle.std.specs.Io.KnownBytes.{Appends};
 ghost use Rattle.rapid_file.specs.Parts.{CameFrom};
 ghost use Rattle.rapid_file.specs.Lines.{line_of, answer_of, IsLineOf};
 
+mod line;
 mod part;
 
+use crate::line::Line;
 use crate::part::{Part, ReadFailed};
 use secrets::v3::seed::RapidSecrets;
 use std::io;
@@ -57,14 +59,16 @@ fn through_parts<R: Read>(
     part.written_to(stream)
 }
 
-// The answer: the hash, or the fixed line.
+// The answer: the hash, or the fixed line, in one write.
 fn says<W: Write>(output: &mut W, ended: Result<RapidStreamHasher, ReadFailed>) -> io::Result<()>
     ensures { OnOk result (Appends (W.contents output.old) (W.contents output.new) (line_of ended)) }
 {
+    let mut line = Line::new();
     match hash_of(ended) {
-        Ok(hash) => writeln!(output, "{hash:016x}"),
-        Err(_) => writeln!(output, "read failed"),
+        Ok(hash) => writeln!(line, "{hash:016x}")?,
+        Err(_) => writeln!(line, "read failed")?,
     }
+    output.write_all(line.written())
 }
 
 // The hash of a stream that nothing failed in.
