@@ -1,5 +1,6 @@
 // The words of a line, and the bytes and numbers that they stand for.
-ghost use Rattle.std.specs.Prelude.{◌<◌, ◌≤◌};
+ghost use Rattle.std.specs.Prelude.{◌<◌, ◌≤◌, IfOk};
+ghost use Rattle.std.specs.Vec.{vec_len};
 
 use secrets::v3::seed::RapidSecrets;
 use std::alloc::{AllocError, Global};
@@ -16,7 +17,9 @@ pub(crate) fn word(line: &[u8], number: usize) -> &[u8] {
 }
 
 // Two digits make a byte. The word `-` has no byte.
-pub(crate) fn bytes_of(alloc: Global, text: &[u8]) -> Result<Vec<u8>, AllocError> {
+pub(crate) fn bytes_of(alloc: Global, text: &[u8]) -> Result<Vec<u8>, AllocError>
+    ensures { IfOk result (λ bytes. vec_len bytes ≤ 8200) }
+{
     text.as_chunks::<2>()
         .0
         .iter()
