@@ -36,8 +36,9 @@ pub fn mix_chunks(
 {
     match size {
         Size::Full => all_chunks::<7>(data, secrets, lanes, compact, protected),
-        Size::Micro => all_chunks::<5>(data, secrets, lanes, compact, protected),
-        Size::Nano => all_chunks::<3>(data, secrets, lanes, compact, protected),
+        // compact is there for the full hash alone, as in the Rust
+        Size::Micro => all_chunks::<5>(data, secrets, lanes, true, protected),
+        Size::Nano => all_chunks::<3>(data, secrets, lanes, true, protected),
     }
 }
 
