@@ -78,7 +78,7 @@ module _ {h s : RapidStreamHasher} (p : Part) (a b c : Option (List ℕ)) (n : �
   -- where a read failed
   pub failed_read : (q : Result RapidStreamHasher ReadFailed) → IsErr q → CameFrom h q a c
   unfolding progress_of
-  failed_read (Err x) i = came_to (Err x) (Err x) refl (λ t u. absurd (cc))
+  failed_read (Err x) i = came_to (Err x) (Err x) (part_failed s p (Err x) refl) (λ t u. absurd (cc))
   failed_read (Ok t) i = absurd (false≢true i)
 
   -- where the stream does not take the part
