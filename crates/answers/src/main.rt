@@ -20,7 +20,7 @@ use std::io::Read;
 const ROOM: u64 = 524288;
 
 fn main(rt: HostRuntime) -> io::Result<()> {
-    // Room for all at once, and for one byte more, where the end is looked for: a list that grows would hold twice as much.
+    // Room for all, and for a byte more, where the end is looked for: a list that grows would hold twice as much.
     let mut text = Vec::with_capacity(rt.alloc(), ROOM as usize + 1)?;
     rt.stdin().take(ROOM).read_to_end(&mut text)?;
     for line in text.split(|byte| *byte == b'\n') {
