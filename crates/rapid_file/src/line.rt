@@ -1,4 +1,4 @@
-// The line that is written, made whole first, so that one write takes it: between two, a reader could be gone or another
+// The line that is written, made whole first so that one write takes it: between two, a reader could be gone or another
 // program's line could stand.
 ghost use Rattle.std.specs.Prelude.{◌≡◌, ◌≤◌, length, take, Some};
 
